@@ -1,0 +1,4 @@
+pub mod Interrupts
+pub mod Book
+pub mod Replies
+pub mod Calls

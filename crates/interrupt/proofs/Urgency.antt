@@ -1,0 +1,23 @@
+-- The laws of what may preempt what: all that its callers use of it.
+use mathlib.Core.Path.{_≡_, refl}
+use mathlib.Core.Bool.{Bool, true, false, _&&_}
+use Prim.Native.Nat.{ℕ, _≤_, _<_}
+use native.Mathlib.Omega.{arith}
+use lib.Dec.{ltb}
+use Rattle.std.proofs.shelf.Ways.{tells}
+use Rattle.interrupt.specs.Preemption.{may-preempt}
+
+-- what is more urgent may preempt where something less urgent may
+pub more-urgent : (p q mask running : ℕ) → p ≤ q → may-preempt q mask running ≡ true → may-preempt p mask running ≡ true
+unfolding may-preempt
+more-urgent p q mask running h e = grind (arith, tells)
+
+-- and what is less urgent may not where something more urgent may not
+pub less-urgent : (p q mask running : ℕ) → p ≤ q → may-preempt p mask running ≡ false → may-preempt q mask running ≡ false
+unfolding may-preempt
+less-urgent p q mask running h e = grind (arith, tells)
+
+-- nothing at the mask or past it preempts
+pub masked : (p mask running : ℕ) → mask ≤ p → may-preempt p mask running ≡ false
+unfolding may-preempt
+masked p mask running h = grind (arith, tells)

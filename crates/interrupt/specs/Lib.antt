@@ -1,0 +1,5 @@
+pub mod Cpu
+pub mod Lists
+pub mod Meaning
+pub mod Preemption
+pub mod Sets
