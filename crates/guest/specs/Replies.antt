@@ -8,6 +8,7 @@ use Rattle.std.specs.declared.result.Result.the-variants.{Ok, Err}
 use Rattle.std.specs.Options.{mapped}
 use Rattle.refusal.specs.declared.Refusal.{Refusal}
 use Rattle.interrupt.specs.declared.id.InterruptId.{InterruptId}
+use Rattle.interrupt.specs.Meaning.{id-of}
 use Rattle.guest.specs.declared.call.Answer.{Answer}
 use Rattle.guest.specs.declared.call.Answer.the-variants.{Done, Changed, Acknowledged}
 
@@ -31,7 +32,7 @@ Said = Result Reply Refusal
 -- what the results of the code's calls say
 
 abbrev pub number-of : Option InterruptId → Option ℕ
-number-of o = mapped (λ i. i .number) o
+number-of o = mapped id-of o
 
 abbrev pub as-done : {A : Type 0} → Result A Refusal → Said
 as-done (Ok a) = Ok done
