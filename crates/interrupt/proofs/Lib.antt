@@ -1,3 +1,4 @@
 pub mod Bits
-pub mod Urgency
+pub mod Ids
 pub mod Lowest
+pub mod Urgency

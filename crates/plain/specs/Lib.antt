@@ -1,0 +1,5 @@
+pub mod Counts
+pub mod Kept
+pub mod Meaning
+pub mod Sources
+pub mod Table

@@ -1,0 +1,4 @@
+pub mod Chains
+pub mod Lists
+pub mod Steps
+pub mod Waiting

@@ -1,0 +1,5 @@
+pub mod Levels
+pub mod Links
+pub mod Order
+pub mod Queues
+pub mod Rings

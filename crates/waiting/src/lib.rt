@@ -1,0 +1,7 @@
+// The waiting order: the interrupts that wait, in the order in which they came, each with the priority at which it waits.
+mod links;
+pub mod order;
+mod queues;
+mod rings;
+#[cfg(test)]
+mod tests;
