@@ -1,9 +1,9 @@
 -- What the steps do to each ring.
 use mathlib.Core.Path.{_≡_, refl, sym, _∙_, ap, subst}
 use mathlib.Core.Logic.{_≢_}
-use mathlib.Core.Bool.{Bool, true, false, cond, not}
+use mathlib.Core.Bool.{Bool, true, false, cond}
 use mathlib.Core.List.{List, [], _∷_, _++_}
-use Prim.Native.Nat.{ℕ, suc, _+_, _≤_, _<_}
+use Prim.Native.Nat.{ℕ, _+_, _≤_, _<_}
 use native.Mathlib.Omega.{arith}
 use lib.Dec.{eqb}
 use lib.ListN.{length, set, length-set}
@@ -71,7 +71,7 @@ pub none : (l : Links) → ((i : ℕ) → i < places → at (l .next) i ≡ i) �
 none l a b p h =
     record { linked = (a (end-of p) (low p h), b (end-of p) (low p h)); apart = tt; named = λ x e. grind (arith, tells) }
 
--- n leaves the ring q
+-- n leaves the ring that it is in
 
 left-ring : (N P N′ P′ : ℕ → ℕ) (n : ℕ) → n < interrupts → Cut N P N′ P′ n → (p : ℕ) (xs : List ℕ) → Ring N P p xs → Ring N′ P′ p (without n xs)
 left-ring N P N′ P′ n b c p xs r =

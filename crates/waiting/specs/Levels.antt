@@ -1,4 +1,4 @@
--- Priorities that an interrupt may have or not.
+-- A table of the priority of each interrupt, if it has one.
 use mathlib.Core.Bool.{Bool}
 use mathlib.Core.List.{List}
 use Prim.Native.Nat.{ℕ}
@@ -8,6 +8,7 @@ use Rattle.std.specs.declared.option.Option.{Option}
 use Rattle.std.specs.declared.option.Option.the-variants.{Some, None}
 use Rattle.interrupt.specs.declared.priority.Priority.{Priority}
 
+-- its level, and 32 where there is none
 abbrev pub level-of : Option Priority → ℕ
 level-of None = 32
 level-of (Some p) = p .level
@@ -16,6 +17,6 @@ level-of (Some p) = p .level
 abbrev pub given : List (Option Priority) → ℕ → Bool
 given ps m = isSome (getD ps m None)
 
--- the level of its priority, and 32 where it has none
+-- the level of interrupt m, and 32 where it has no priority
 abbrev pub level-at : List (Option Priority) → ℕ → ℕ
 level-at ps m = level-of (getD ps m None)

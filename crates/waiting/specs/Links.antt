@@ -1,6 +1,6 @@
 -- Rings of links: the place after each place, next, and the place before it, prev.
 use mathlib.Core.Path.{_≡_}
-use mathlib.Core.Bool.{Bool, true, false, cond, not, _&&_}
+use mathlib.Core.Bool.{Bool, true, cond, not, _&&_}
 use mathlib.Core.List.{List, [], _∷_}
 use Prim.Native.Nat.{ℕ, zero, suc, _+_, _<_}
 use lib.Dec.{eqb}
@@ -19,6 +19,7 @@ places = interrupts + 32
 abbrev pub end-of : ℕ → ℕ
 end-of p = interrupts + p
 
+-- what a table has at place i
 abbrev pub at : List ℕ → ℕ → ℕ
 at xs i = getD xs i 0
 

@@ -1,5 +1,5 @@
 -- What the waiting order means: a list of those that wait, and the priority at which each of them waits.
-use mathlib.Core.Bool.{Bool, cond}
+use mathlib.Core.Bool.{cond}
 use mathlib.Core.List.{List, [], _∷_, _++_}
 use Prim.Native.Nat.{ℕ}
 use lib.Dec.{eqb}

@@ -40,6 +40,7 @@ impl Links {
     }
 }
 
+// Each place's own number.
 fn own_places() -> [u16; PLACES]
     ensures { λ r. ⌜ ((i : ℕ) → i < places → at r i ≡ i) ⌝ }
 {

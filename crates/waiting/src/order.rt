@@ -24,8 +24,12 @@ pub struct WaitingOrder {
     queues: Queues,
     // the priority at which each interrupt waits, if it does
     priorities: [Option<Priority>; COUNT],
+    // of the rings of arrivals only the first is used
     ghost single: { (p : ℕ) → p < 31 → ring-list arrivals (suc p) ≡ [] },
+    // each queue has those of its priority, in the order in which they came
     ghost parted: { (p : ℕ) → p < 32 → queue queues p ≡ those (λ m. eqb (level-at priorities m) p) (ring-list arrivals 0) },
+    // just those that wait have a priority here
     ghost noted: { (m : ℕ) → has m (ring-list arrivals 0) ≡ given priorities m },
+    // what its type says, for the functions that only write to it
     ghost sized: { length priorities ≡ interrupts },
 }

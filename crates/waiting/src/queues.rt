@@ -11,6 +11,7 @@ mod queueing;
 
 #[derive(Drop)]
 pub struct Queues {
+    // the queue of each priority is the ring of that priority
     rings: Rings,
     fronts: PrioritySet,
     ghost shown: { (p : ℕ) → p < 32 → members fronts p ≡ filled (ring-list rings p) },

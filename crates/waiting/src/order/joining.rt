@@ -49,6 +49,7 @@ impl WaitingOrder {
         }
     }
 
+    // Whether an interrupt waits.
     pub fn waits(&self, id: InterruptId) -> bool
         ensures { λ r. ⌜ r ≡ has (id-of id) (waiting-list (now (self .entry))) ⌝ }
     {

@@ -1,7 +1,5 @@
-use mathlib.Core.Path.{_∙_}
-use mathlib.Core.Path.{ap}
+use mathlib.Core.Path.{_≡_, _∙_, ap, subst}
 use Prim.Native.Nat.{ℕ, _≤_, _<_}
-use mathlib.Core.Path.{_≡_, subst}
 use Rattle.std.specs.Options.{Cases}
 use Rattle.interrupt.specs.Meaning.{id-of}
 use Rattle.waiting.specs.Links.{interrupts, at}

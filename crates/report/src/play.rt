@@ -1,0 +1,153 @@
+// Setups and events, played one after another on any guest.
+ghost use mathlib.Core.Path.{_≡_};
+ghost use mathlib.Core.Bool.{cond};
+ghost use Prim.Native.Nat.{_+_, _*_, _≤_, _<_};
+ghost use lib.ListN.{length};
+ghost use Rattle.std.specs.Results.{Cases, errPart};
+ghost use Rattle.std.specs.Options.{mapped};
+ghost use Rattle.std.specs.Vec.{listOf};
+ghost use Rattle.guest.specs.Calls.{refusal-of};
+ghost use Rattle.guest.specs.Replies.{as-reply};
+ghost use Rattle.trace.specs.Faults.{of-guest};
+ghost use Rattle.trace.specs.Opening.{event-at, events-in};
+ghost use Rattle.report.specs.Lines.{onto};
+ghost use Rattle.report.specs.Playing.{configuring, set-up, setup-declined, after-setups, after-events, lines, names-number, was-declined, count-of};
+ghost use Rattle.report.specs.Reporting.{placed-at, placed-in};
+use crate::line::put_line;
+use guest::call::Answer;
+use guest::interface::Guest;
+use guest::perform::perform;
+use refusal::Refusal;
+use trace::fault::GuestFault;
+use trace::reader::Trace;
+use trace::record::Setup;
+
+// How many bytes were written, how many acknowledgements named a number, and how many events were declined.
+#[derive(Clone, Copy)]
+pub struct Tally {
+    pub used: usize,
+    pub acknowledged: u16,
+    pub declined: u16,
+}
+
+// Plays all setups, or those before the first that the guest declines.
+pub fn play_setups<G: Guest>(guest: &mut G, trace: &Trace) -> Result<(), GuestFault>
+    requires { ⌜ G·Guest .sound (now guest) ⌝ }
+    ensures kept { λ _. ⌜ G·Guest .sound (now (guest .exit)) ⌝ }
+    ensures fault { λ r. ⌜ setup-declined (G·Guest .book (now (guest .entry))) (placed-in (now (now (trace .entry) .file)) (now (trace .entry) .setups)) ≡ mapped of-guest (errPart r) ⌝ }
+    ensures does { λ _. ⌜ G·Guest .book (now (guest .exit)) ≡ after-setups (G·Guest .book (now (guest .entry))) (placed-in (now (now (trace .entry) .file)) (now (trace .entry) .setups)) ⌝ }
+{
+    for k in 0..trace.setup_count() {
+        play_setup(guest, trace, k)?;
+    }
+    Ok(())
+}
+
+// Plays setup k.
+fn play_setup<G: Guest>(guest: &mut G, trace: &Trace, k: u16) -> Result<(), GuestFault>
+    requires sound { ⌜ G·Guest .sound (now guest) ⌝ }
+    requires within { ⌜ k < now trace .setups .count ⌝ }
+    ensures kept { λ _. ⌜ G·Guest .sound (now (guest .exit)) ⌝ }
+    ensures fault { λ r. ⌜ setup-declined (G·Guest .book (now (guest .entry))) (listOf (placed-at (now (now (trace .entry) .file)) (now (trace .entry) .setups) k)) ≡ mapped of-guest (errPart r) ⌝ }
+    ensures does { λ _. ⌜ G·Guest .book (now (guest .exit)) ≡ after-setups (G·Guest .book (now (guest .entry))) (listOf (placed-at (now (now (trace .entry) .file)) (now (trace .entry) .setups) k)) ⌝ }
+{
+    let Some(record) = trace.setup(k) else {
+        return Ok(());
+    };
+    let Some(setup) = record.setup() else {
+        return Ok(());
+    };
+    match set_up(guest, setup) {
+        Ok(()) => Ok(()),
+        Err(refusal) => Err(GuestFault {
+            refusal,
+            place: record.offset,
+        }),
+    }
+}
+
+// Configures an interrupt, and then enables it if the setup says so, which is never declined once the first was granted.
+fn set_up<G: Guest>(guest: &mut G, setup: Setup) -> Result<(), Refusal>
+    requires { ⌜ G·Guest .sound (now guest) ⌝ }
+    ensures kept { λ _. ⌜ G·Guest .sound (now (guest .exit)) ⌝ }
+    ensures refusal { λ r. ⌜ refusal-of (configuring setup) (G·Guest .book (now (guest .entry))) ≡ errPart r ⌝ }
+    ensures does { λ r. ⌜ Cases r (λ _. G·Guest .book (now (guest .exit)) ≡ set-up setup (G·Guest .book (now (guest .entry)))) (λ _. G·Guest .book (now (guest .exit)) ≡ G·Guest .book (now (guest .entry))) ⌝ }
+{
+    guest.configure(setup.number as u32, setup.kind, setup.priority as u32)?;
+    if setup.enabled {
+        guest.enable(setup.number as u32)?;
+    }
+    Ok(())
+}
+
+// Plays all events, and writes their lines one after another from the area's front.
+pub fn play_events<G: Guest>(guest: &mut G, trace: &Trace, area: &mut [u8]) -> Tally
+    requires sound { ⌜ G·Guest .sound (now guest) ⌝ }
+    requires room { ⌜ 20 * now trace .events .count ≤ length (now area) ⌝ }
+    ensures kept { λ _. ⌜ G·Guest .sound (now (guest .exit)) ⌝ }
+    ensures does { λ _. ⌜ G·Guest .book (now (guest .exit)) ≡ after-events (G·Guest .book (now (guest .entry))) (events-in (now (now (trace .entry) .file)) (now (trace .entry) .events)) ⌝ }
+    ensures lines { λ _. ⌜ now (area .exit) ≡ onto (lines (G·Guest .book (now (guest .entry))) (events-in (now (now (trace .entry) .file)) (now (trace .entry) .events))) (now (area .entry)) ⌝ }
+    ensures used { λ r. ⌜ r .used ≡ length (lines (G·Guest .book (now (guest .entry))) (events-in (now (now (trace .entry) .file)) (now (trace .entry) .events))) ⌝ }
+    ensures acknowledged { λ r. ⌜ r .acknowledged ≡ count-of names-number (G·Guest .book (now (guest .entry))) (events-in (now (now (trace .entry) .file)) (now (trace .entry) .events)) ⌝ }
+    ensures declined { λ r. ⌜ r .declined ≡ count-of was-declined (G·Guest .book (now (guest .entry))) (events-in (now (now (trace .entry) .file)) (now (trace .entry) .events)) ⌝ }
+    ensures bound { λ r. ⌜ r .used ≤ 20 * now (trace .entry) .events .count ⌝ }
+{
+    let mut used = 0;
+    let mut acknowledged = 0;
+    let mut declined = 0;
+    for k in 0..trace.event_count() {
+        let one = play_event(guest, trace, k, &mut area[used..]);
+        used += one.used;
+        acknowledged += one.acknowledged;
+        declined += one.declined;
+    }
+    Tally {
+        used,
+        acknowledged,
+        declined,
+    }
+}
+
+// Plays event k, and writes its line, if it has one, at the area's front.
+fn play_event<G: Guest>(guest: &mut G, trace: &Trace, k: u16, area: &mut [u8]) -> Tally
+    requires sound { ⌜ G·Guest .sound (now guest) ⌝ }
+    requires within { ⌜ k < now trace .events .count ⌝ }
+    requires room { ⌜ 20 ≤ length (now area) ⌝ }
+    ensures kept { λ _. ⌜ G·Guest .sound (now (guest .exit)) ⌝ }
+    ensures does { λ _. ⌜ G·Guest .book (now (guest .exit)) ≡ after-events (G·Guest .book (now (guest .entry))) (listOf (event-at (now (now (trace .entry) .file)) (now (trace .entry) .events) k)) ⌝ }
+    ensures lines { λ _. ⌜ now (area .exit) ≡ onto (lines (G·Guest .book (now (guest .entry))) (listOf (event-at (now (now (trace .entry) .file)) (now (trace .entry) .events) k))) (now (area .entry)) ⌝ }
+    ensures used { λ r. ⌜ r .used ≡ length (lines (G·Guest .book (now (guest .entry))) (listOf (event-at (now (now (trace .entry) .file)) (now (trace .entry) .events) k))) ⌝ }
+    ensures acknowledged { λ r. ⌜ r .acknowledged ≡ count-of names-number (G·Guest .book (now (guest .entry))) (listOf (event-at (now (now (trace .entry) .file)) (now (trace .entry) .events) k)) ⌝ }
+    ensures declined { λ r. ⌜ r .declined ≡ count-of was-declined (G·Guest .book (now (guest .entry))) (listOf (event-at (now (now (trace .entry) .file)) (now (trace .entry) .events) k)) ⌝ }
+    ensures bound { λ r. ⌜ r .used ≤ 20 ⌝ }
+{
+    let Some(record) = trace.event(k) else {
+        return Tally {
+            used: 0,
+            acknowledged: 0,
+            declined: 0,
+        };
+    };
+    let Some(event) = record.event() else {
+        return Tally {
+            used: 0,
+            acknowledged: 0,
+            declined: 0,
+        };
+    };
+    let said = perform(guest, event.call);
+    let acknowledged = names_number(said) as u16;
+    let declined = said.is_err() as u16;
+    Tally {
+        used: put_line(area, event.time, said),
+        acknowledged,
+        declined,
+    }
+}
+
+// Whether it is an acknowledgement that named a number.
+fn names_number(said: Result<Answer, Refusal>) -> bool
+    ensures { λ r. ⌜ r ≡ names-number (as-reply said) ⌝ }
+{
+    matches!(said, Ok(Answer::Acknowledged(Some(_))))
+}

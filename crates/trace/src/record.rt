@@ -1,0 +1,75 @@
+// Records: parts of the file, of 8 bytes each.
+ghost use mathlib.Core.Path.{_≡_};
+ghost use Rattle.trace.specs.Records.{kind-of, flag-of, setup-of, event-of};
+use crate::letters::call_of;
+use guest::call::Call;
+use interrupt::kind::Kind;
+
+#[derive(Clone, Copy)]
+pub struct Setup {
+    pub number: u16,
+    pub kind: Kind,
+    pub priority: u8,
+    pub enabled: bool,
+}
+
+#[derive(Clone, Copy)]
+pub struct Event {
+    pub time: u32,
+    pub call: Call,
+}
+
+// A part of the file, and where it lies there.
+#[derive(Clone, Copy)]
+pub struct Record<'a> {
+    pub bytes: &'a [u8],
+    pub offset: usize,
+}
+
+impl Record<'_> {
+    // The setup in it, or none where it is not whole or a field is not as it should be.
+    pub fn setup(&self) -> Option<Setup>
+        ensures { λ r. ⌜ r ≡ setup-of (now (now (self .entry) .bytes)) ⌝ }
+    {
+        let [low, high, kind, priority, enabled, 0, 0, 0] = self.bytes else {
+            return None;
+        };
+        let number = u16::from_le_bytes([*low, *high]);
+        let kind = kind_of(*kind)?;
+        let enabled = flag_of(*enabled)?;
+        Some(Setup {
+            number,
+            kind,
+            priority: *priority,
+            enabled,
+        })
+    }
+
+    // The event in it, or none where it is not whole, its letter is unknown or a field is not as it should be.
+    pub fn event(&self) -> Option<Event>
+        ensures { λ r. ⌜ r ≡ event-of (now (now (self .entry) .bytes)) ⌝ }
+    {
+        let [t0, t1, t2, t3, letter, aux, low, high] = self.bytes else {
+            return None;
+        };
+        let call = call_of(*letter, *aux, u16::from_le_bytes([*low, *high]))?;
+        let time = u32::from_le_bytes([*t0, *t1, *t2, *t3]);
+        Some(Event { time, call })
+    }
+}
+
+fn kind_of(letter: u8) -> Option<Kind>
+    ensures { λ r. ⌜ r ≡ kind-of letter ⌝ }
+{
+    match letter as char {
+        'e' => Some(Kind::Edge),
+        'l' => Some(Kind::Level),
+        _ => None,
+    }
+}
+
+fn flag_of(value: u8) -> Option<bool>
+    ensures { λ r. ⌜ r ≡ flag-of value ⌝ }
+{
+    (value < 2).then_some(value == 1)
+}
