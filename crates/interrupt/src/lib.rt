@@ -5,3 +5,4 @@ pub mod kind;
 pub mod preemption;
 pub mod priority;
 pub mod priority_set;
+mod word;

@@ -9,19 +9,12 @@ use Rattle.std.proofs.shelf.Ways.{tells}
 use Rattle.std.proofs.shelf.Tests.{eqb-true, eqb-false, false≢true}
 use Rattle.interrupt.specs.Lists.{has, without}
 use Rattle.interrupt.specs.Sets.{put}
+use Rattle.waiting.proofs.Lists.{has-push, has-without}
 use Rattle.guest.specs.Interrupts.{Interrupt, waits}
 use Rattle.guest.specs.Book.{settle}
 use Rattle.plain.specs.Counts.{one-if, count}
 use Rattle.plain.specs.Kept.{All-wait, At-own-priority}
 use Rattle.plain.proofs.Counting.{count-put}
-
-has-push : (n : ℕ) (xs : List ℕ) (y : ℕ) → has n (xs ++ y ∷ []) ≡ (has n xs || eqb y n)
-has-push n [] y = grind (arith, tells)
-has-push n (x ∷ xs) y = let ih = has-push n xs y in grind (arith, tells)
-
-has-without : (m n : ℕ) (xs : List ℕ) → has m (without n xs) ≡ cond (eqb m n) false (has m xs)
-has-without m n [] = grind (arith, tells)
-has-without m n (x ∷ xs) = let ih = has-without m n xs in grind (arith, tells)
 
 -- after a settle at n, n is in the list as it waits, and any other as before
 pub has-settle : (m n : ℕ) (v : Bool) (xs : List ℕ) → has m (settle n v xs) ≡ cond (eqb m n) v (has m xs)

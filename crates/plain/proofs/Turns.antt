@@ -15,6 +15,8 @@ use Rattle.interrupt.specs.Cpu.{admits}
 use Rattle.interrupt.specs.Sets.{lowest}
 use Rattle.interrupt.proofs.Lowest.{lowest-of}
 use Rattle.interrupt.proofs.Urgency.{admits-less}
+use Rattle.waiting.specs.Order.{of-priority}
+use Rattle.waiting.proofs.Lists.{those-same}
 use Rattle.guest.specs.Interrupts.{pending, waits}
 use Rattle.guest.specs.Book.{Book, sooner, first-by, eligible, priority-of, first-in-turn}
 
@@ -25,9 +27,6 @@ none-first fit rank (x ∷ xs) h =
     let e : fit x ≡ false = h x (grind (arith, tells)) in
     let r = none-first fit rank xs (λ m i. h m (grind (arith, tells))) in
     rw e r
-
-abbrev pub of-rank : (ℕ → ℕ) → ℕ → List ℕ → List ℕ
-of-rank rank p xs = those (λ m. eqb (rank m) p) xs
 
 -- what is found is at least as high as all there is
 abbrev AtLeast : (ℕ → ℕ) → ℕ → Option ℕ → Type 0
@@ -85,11 +84,11 @@ abbrev HasRank : (ℕ → ℕ) → ℕ → Option ℕ → Type 0
 HasRank rank p None = Unit {0}
 HasRank rank p (Some y) = rank y ≡ p
 
-front-rank : (rank : ℕ → ℕ) (p : ℕ) (xs : List ℕ) → HasRank rank p (first (of-rank rank p xs))
+front-rank : (rank : ℕ → ℕ) (p : ℕ) (xs : List ℕ) → HasRank rank p (first (of-priority rank p xs))
 front-rank rank p [] = tt
 front-rank rank p (x ∷ xs) = go (front-rank rank p xs) (eqb (rank x) p) refl
   where
-    go : HasRank rank p (first (of-rank rank p xs)) → (t : Bool) → eqb (rank x) p ≡ t → HasRank rank p (first (cond t (x ∷ of-rank rank p xs) (of-rank rank p xs)))
+    go : HasRank rank p (first (of-priority rank p xs)) → (t : Bool) → eqb (rank x) p ≡ t → HasRank rank p (first (cond t (x ∷ of-priority rank p xs) (of-priority rank p xs)))
     go r true e = eqb-true (rank x) p e
     go r false e = r
 
@@ -108,13 +107,13 @@ same-cond false a b e = refl
 -- where p is the lowest priority of those in the list, and those of p fit, the first is the front of p
 pub front-first :
     (fit : ℕ → Bool) (rank : ℕ → ℕ) (p : ℕ) (xs : List ℕ) → ((m : ℕ) → has m xs ≡ true → p ≤ rank m) → ((m : ℕ) → has m xs ≡ true → rank m ≡ p → fit m ≡ true) →
-    filled (of-rank rank p xs) ≡ true → first-by fit rank xs ≡ first (of-rank rank p xs)
+    filled (of-priority rank p xs) ≡ true → first-by fit rank xs ≡ first (of-priority rank p xs)
 front-first fit rank p [] low fits f = refl
 front-first fit rank p (x ∷ xs) low fits f =
     go (front-first fit rank p xs (λ m i. low m (grind (arith, tells))) (λ m i. fits m (grind (arith, tells)))) (eqb (rank x) p) refl f
   where
-    go : (filled (of-rank rank p xs) ≡ true → first-by fit rank xs ≡ first (of-rank rank p xs)) → (t : Bool) → eqb (rank x) p ≡ t → filled (cond t (x ∷ of-rank rank p xs) (of-rank rank p xs)) ≡ true →
-        cond (fit x) (sooner rank x (first-by fit rank xs)) (first-by fit rank xs) ≡ first (cond t (x ∷ of-rank rank p xs) (of-rank rank p xs))
+    go : (filled (of-priority rank p xs) ≡ true → first-by fit rank xs ≡ first (of-priority rank p xs)) → (t : Bool) → eqb (rank x) p ≡ t → filled (cond t (x ∷ of-priority rank p xs) (of-priority rank p xs)) ≡ true →
+        cond (fit x) (sooner rank x (first-by fit rank xs)) (first-by fit rank xs) ≡ first (cond t (x ∷ of-priority rank p xs) (of-priority rank p xs))
     go ih true e g =
         let s : rank x ≡ p = eqb-true (rank x) p e in
         let t : fit x ≡ true = fits x (grind (arith, tells)) s in
@@ -123,14 +122,14 @@ front-first fit rank p (x ∷ xs) low fits f =
         let d : rank x ≢ p = eqb-false (rank x) p e in
         let l : p ≤ rank x = low x (grind (arith, tells)) in
         let r = ih g in
-        rw r (same-cond (fit x) _ _ (later-sooner rank p x (of-rank rank p xs) (omega arith) g (front-rank rank p xs)))
+        rw r (same-cond (fit x) _ _ (later-sooner rank p x (of-priority rank p xs) (omega arith) g (front-rank rank p xs)))
 
 -- someone of rank p is in the list where its queue is not empty, and only then
-pub filled-has : (rank : ℕ → ℕ) (p m : ℕ) (xs : List ℕ) → has m xs ≡ true → rank m ≡ p → filled (of-rank rank p xs) ≡ true
+pub filled-has : (rank : ℕ → ℕ) (p m : ℕ) (xs : List ℕ) → has m xs ≡ true → rank m ≡ p → filled (of-priority rank p xs) ≡ true
 filled-has rank p m [] h e = h
 filled-has rank p m (x ∷ xs) h e = go (filled-has rank p m xs) (eqb (rank x) p) refl
   where
-    go : (has m xs ≡ true → rank m ≡ p → filled (of-rank rank p xs) ≡ true) → (t : Bool) → eqb (rank x) p ≡ t → filled (cond t (x ∷ of-rank rank p xs) (of-rank rank p xs)) ≡ true
+    go : (has m xs ≡ true → rank m ≡ p → filled (of-priority rank p xs) ≡ true) → (t : Bool) → eqb (rank x) p ≡ t → filled (cond t (x ∷ of-priority rank p xs) (of-priority rank p xs)) ≡ true
     go ih true f = refl
     go ih false f =
         let d : rank x ≢ p = eqb-false (rank x) p f in
@@ -141,18 +140,12 @@ filled-has rank p m (x ∷ xs) h e = go (filled-has rank p m xs) (eqb (rank x) p
         other false g = grind (arith, tells)
 
 -- only the priorities of those in the list matter
-those-same : (f g : ℕ → Bool) (xs : List ℕ) → ((m : ℕ) → has m xs ≡ true → f m ≡ g m) → those f xs ≡ those g xs
-those-same f g [] h = refl
-those-same f g (x ∷ xs) h =
-    let ih = those-same f g xs (λ m e. h m (grind (arith, tells))) in
-    let k = h x (grind (arith, tells)) in grind (arith, tells)
-
-of-rank-same : (rank own : ℕ → ℕ) (p : ℕ) (xs : List ℕ) → ((m : ℕ) → has m xs ≡ true → rank m ≡ own m) → of-rank rank p xs ≡ of-rank own p xs
-of-rank-same rank own p xs h = those-same (λ m. eqb (rank m) p) (λ m. eqb (own m) p) xs (λ m e. ap (λ (n : ℕ). eqb n p) (h m e))
+of-priority-same : (rank own : ℕ → ℕ) (p : ℕ) (xs : List ℕ) → ((m : ℕ) → has m xs ≡ true → rank m ≡ own m) → of-priority rank p xs ≡ of-priority own p xs
+of-priority-same rank own p xs h = those-same (λ m. eqb (rank m) p) (λ m. eqb (own m) p) xs (λ m e. ap (λ (n : ℕ). eqb n p) (h m e))
 
 -- what the waiting order says of those that wait, and the table of them
 pub record Known (b : Book) (rank : ℕ → ℕ) (fronts : ℕ → Bool) : Type 0 where
-  pub shown : (p : ℕ) → p < 32 → fronts p ≡ filled (of-rank rank p (b .waiting))
+  pub shown : (p : ℕ) → p < 32 → fronts p ≡ filled (of-priority rank p (b .waiting))
   pub within : (m : ℕ) → has m (b .waiting) ≡ true → rank m < 32
   pub wait : (m : ℕ) → has m (b .waiting) ≡ true → waits (b .at m) ≡ true
   pub own : (m : ℕ) → has m (b .waiting) ≡ true → rank m ≡ priority-of b m
@@ -181,10 +174,10 @@ module _ (b : Book) (rank : ℕ → ℕ) (fronts : ℕ → Bool) (k : Known b ra
       let w = k .wait m i in rw w no)
 
   -- the lowest front is admitted
-  pub admitted : lowest 32 fronts < 32 → admits (b .cpu) (lowest 32 fronts) ≡ true → first (of-rank rank (lowest 32 fronts) (b .waiting)) ≡ first-in-turn b
+  pub admitted : lowest 32 fronts < 32 → admits (b .cpu) (lowest 32 fronts) ≡ true → first (of-priority rank (lowest 32 fronts) (b .waiting)) ≡ first-in-turn b
   admitted h e =
-      let same = of-rank-same rank (priority-of b) (lowest 32 fronts) (b .waiting) (k .own) in
-      let there : filled (of-rank (priority-of b) (lowest 32 fronts) (b .waiting)) ≡ true =
+      let same = of-priority-same rank (priority-of b) (lowest 32 fronts) (b .waiting) (k .own) in
+      let there : filled (of-priority (priority-of b) (lowest 32 fronts) (b .waiting)) ≡ true =
       ap filled (sym same) ∙ sym (k .shown (lowest 32 fronts) h) ∙ lowest-of 32 fronts .here h in
       ap first same ∙ sym (front-first (eligible b) (priority-of b) (lowest 32 fronts) (b .waiting)
       (λ m i. let l = least m i in let o = k .own m i in omega arith)

@@ -52,12 +52,6 @@ impl Source {
         self.priority
     }
 
-    pub fn is_pending(self) -> bool
-        ensures { λ r. ⌜ r ≡ pending (means self) ⌝ }
-    {
-        matches!(self.state, State::Pending | State::Both)
-    }
-
     pub fn is_active(self) -> bool
         ensures { λ r. ⌜ r ≡ means self .active ⌝ }
     {

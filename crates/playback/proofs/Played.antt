@@ -11,9 +11,9 @@ use Rattle.std.specs.declared.result.Result.the-variants.{Ok, Err}
 use Rattle.std.proofs.shelf.Lists.{take-at}
 use Rattle.guest.specs.Book.{Book, start}
 use Rattle.trace.specs.declared.contents.Section.{Section}
-use Rattle.trace.specs.declared.fault.Fault.{Fault}
+use Rattle.fault.specs.declared.Fault.{Fault}
 use Rattle.trace.specs.Contents.{setups-section, events-section}
-use Rattle.trace.specs.Faults.{_else_}
+use Rattle.fault.specs.Faults.{_else_}
 use Rattle.trace.specs.Opening.{fault-of, events-in}
 use Rattle.report.specs.Lines.{onto}
 use Rattle.report.specs.Playing.{setup-declined, after-setups}

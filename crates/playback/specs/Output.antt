@@ -8,9 +8,9 @@ use Rattle.std.specs.declared.option.Option.{Option}
 use Rattle.std.specs.declared.option.Option.the-variants.{Some, None}
 use Rattle.refusal.specs.Numbers.{refusal-number}
 use Rattle.guest.specs.Book.{start}
-use Rattle.trace.specs.declared.fault.Fault.{Fault}
+use Rattle.fault.specs.declared.Fault.{Fault}
 use Rattle.trace.specs.Contents.{setups-section, events-section}
-use Rattle.trace.specs.Faults.{layer-number, _else_}
+use Rattle.fault.specs.Faults.{layer-number, _else_}
 use Rattle.trace.specs.Opening.{fault-of, events-in}
 use Rattle.playback.specs.declared.failure.Failure.{Failure}
 use Rattle.playback.specs.declared.failure.Failure.the-variants.{Faulty, Memory}

@@ -2,7 +2,7 @@
 ghost use mathlib.Core.Path.{_≡_};
 ghost use Rattle.playback.specs.declared.failure.Failure.the-variants.{Faulty, Memory};
 use std::alloc::AllocError;
-use trace::fault::Fault;
+use fault::Fault;
 
 #[derive(Clone, Copy)]
 pub enum Failure {

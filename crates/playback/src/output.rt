@@ -13,7 +13,7 @@ use plain::plain_guest::calls::PlainGuestCalls;
 use report::report::report;
 use std::alloc::AllocError;
 use std::alloc::Global;
-use trace::fault::Fault;
+use fault::Fault;
 use trace::reader::Trace;
 
 // The report of the file on a new guest, or the line `fault layer cause place`.

@@ -13,10 +13,10 @@ use Rattle.refusal.specs.declared.Refusal.{Refusal}
 use Rattle.guest.specs.Book.{Book}
 use Rattle.guest.specs.Calls.{next, says, refusal-of, unless}
 use Rattle.guest.specs.Replies.{Said}
-use Rattle.trace.specs.declared.fault.Fault.{Fault}
+use Rattle.fault.specs.declared.Fault.{Fault}
 use Rattle.trace.specs.declared.record.Event.{Event}
 use Rattle.trace.specs.Bytes.{held-by}
-use Rattle.trace.specs.Faults.{declined}
+use Rattle.fault.specs.Faults.{declined}
 use Rattle.trace.proofs.Held.{held-from, held-none, held-more, held-split}
 use Rattle.report.specs.Lines.{onto, line-of}
 use Rattle.report.specs.Playing.{Placed, configuring, set-up, declined-or, setup-declined, after-setups, after-events, lines, names-number, was-declined, count-of}

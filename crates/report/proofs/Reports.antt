@@ -9,9 +9,9 @@ use Rattle.std.specs.declared.option.Option.the-variants.{Some, None}
 use Rattle.std.specs.declared.result.Result.{Result}
 use Rattle.std.specs.declared.result.Result.the-variants.{Ok, Err}
 use Rattle.guest.specs.Book.{Book}
-use Rattle.trace.specs.declared.fault.Fault.{Fault}
+use Rattle.fault.specs.declared.Fault.{Fault}
 use Rattle.trace.specs.declared.record.Event.{Event}
-use Rattle.trace.specs.Faults.{area-too-small}
+use Rattle.fault.specs.Faults.{area-too-small}
 use Rattle.report.specs.Lines.{onto, done-line}
 use Rattle.report.specs.Playing.{Placed, setup-declined, after-setups, after-events, lines, names-number, was-declined, count-of}
 use Rattle.report.specs.Reporting.{report-text, Reports}

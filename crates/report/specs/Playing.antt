@@ -12,10 +12,10 @@ use Rattle.guest.specs.declared.call.Call.the-variants.{Configure, Enable}
 use Rattle.guest.specs.Book.{Book}
 use Rattle.guest.specs.Calls.{next, says, refusal-of, unless}
 use Rattle.guest.specs.Replies.{done, changed, acknowledged, Said}
-use Rattle.trace.specs.declared.fault.Fault.{Fault}
+use Rattle.fault.specs.declared.Fault.{Fault}
 use Rattle.trace.specs.declared.record.Setup.{Setup}
 use Rattle.trace.specs.declared.record.Event.{Event}
-use Rattle.trace.specs.Faults.{declined}
+use Rattle.fault.specs.Faults.{declined}
 use Rattle.report.specs.Lines.{line-of}
 
 -- the setups

@@ -10,10 +10,10 @@ use Rattle.std.specs.declared.result.Result.the-variants.{Ok, Err}
 use Rattle.std.specs.Options.{mapped}
 use Rattle.guest.specs.Book.{Book}
 use Rattle.trace.specs.declared.contents.Section.{Section}
-use Rattle.trace.specs.declared.fault.Fault.{Fault}
+use Rattle.fault.specs.declared.Fault.{Fault}
 use Rattle.trace.specs.declared.record.Event.{Event}
 use Rattle.trace.specs.Bytes.{held-by}
-use Rattle.trace.specs.Faults.{area-too-small}
+use Rattle.fault.specs.Faults.{area-too-small}
 use Rattle.trace.specs.Opening.{place, setup-at}
 use Rattle.report.specs.Lines.{onto, done-line}
 use Rattle.report.specs.Playing.{Placed, setup-declined, after-setups, after-events, lines, names-number, was-declined, count-of}

@@ -8,7 +8,7 @@ ghost use Rattle.std.specs.Options.{mapped};
 ghost use Rattle.std.specs.Vec.{listOf};
 ghost use Rattle.guest.specs.Calls.{refusal-of};
 ghost use Rattle.guest.specs.Replies.{as-reply};
-ghost use Rattle.trace.specs.Faults.{of-guest};
+ghost use Rattle.fault.specs.Faults.{of-guest};
 ghost use Rattle.trace.specs.Opening.{event-at, events-in};
 ghost use Rattle.report.specs.Lines.{onto};
 ghost use Rattle.report.specs.Playing.{configuring, set-up, setup-declined, after-setups, after-events, lines, names-number, was-declined, count-of};
@@ -18,7 +18,7 @@ use guest::call::Answer;
 use guest::interface::Guest;
 use guest::perform::perform;
 use refusal::Refusal;
-use trace::fault::GuestFault;
+use fault::GuestFault;
 use trace::reader::Trace;
 use trace::record::Setup;
 

@@ -2,7 +2,7 @@
 ghost use mathlib.Core.Path.{_≡_};
 ghost use Prim.Native.Nat.{_<_, _≤_};
 ghost use Rattle.std.specs.Results.{Cases};
-ghost use Rattle.trace.specs.declared.fault.ContentsFault.the-variants.{Area};
+ghost use Rattle.fault.specs.declared.ContentsFault.the-variants.{Area};
 ghost use Rattle.trace.specs.Opening.{events-in};
 ghost use Rattle.report.specs.Reporting.{placed-in, room-for, Reports};
 use crate::line::LONGEST;
@@ -10,10 +10,10 @@ use crate::line::put_done;
 use crate::play::play_events;
 use crate::play::play_setups;
 use guest::interface::Guest;
-use trace::fault::ContentsFault;
-use trace::fault::Fault;
-use trace::fault::FaultFromContents;
-use trace::fault::FaultFromGuest;
+use fault::ContentsFault;
+use fault::Fault;
+use fault::FaultFromContents;
+use fault::FaultFromGuest;
 use trace::reader::Trace;
 
 // Plays the setups and then the events on the guest, writes the report from the area's front, and answers its length.

@@ -1,4 +1,3 @@
-pub mod Faults
 pub mod Held
 pub mod Opened
 pub mod Records

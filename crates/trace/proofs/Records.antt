@@ -1,4 +1,4 @@
--- Records: what a whole one holds, that a cut one holds nothing, and the fault of an event whose time was compared.
+-- Records: that a cut one holds nothing, an event's time, and its fault once that is compared with the time before it.
 use mathlib.Core.Path.{_≡_, refl, sym, ap, _∙_}
 use mathlib.Core.Logic.{_⊎_, ⊎-elim}
 use mathlib.Core.Bool.{Bool, true, false, cond, not}
@@ -7,7 +7,7 @@ use Prim.Native.Nat.{ℕ, _+_, _-_, _<_, _≤_}
 use native.Mathlib.Omega.{arith}
 use lib.Dec.{eqb, ltb}
 use lib.ListN.{length, drop, length-take, length-drop}
-use Rattle.std.proofs.shelf.Tests.{eq-eqb, ne-eqb, lt-ltb, le-ltb, cases-lt, cond-false}
+use Rattle.std.proofs.shelf.Tests.{ne-eqb, lt-ltb, le-ltb, cases-lt, cond-false}
 use Rattle.std.specs.declared.option.Option.{Option}
 use Rattle.std.specs.declared.option.Option.the-variants.{Some, None}
 use Rattle.std.specs.Options.{mapped, isSome}
@@ -15,20 +15,13 @@ use Rattle.guest.specs.declared.call.Call.{Call}
 use Rattle.trace.specs.declared.contents.Section.{Section}
 use Rattle.trace.specs.declared.record.Event.{Event}
 use Rattle.trace.specs.Bytes.{byte, le16, le32, record-at}
-use Rattle.trace.specs.Faults.{time-falls, bad-field, _unless_, _else_}
+use Rattle.fault.specs.Faults.{time-falls, bad-field, _unless_, _else_}
 use Rattle.trace.specs.Letters.{call-of}
 use Rattle.trace.specs.Opening.{place, Absent, setup-at, event-at, time-at, event-fault}
 use Rattle.trace.specs.Records.{whole, event-of}
 
 abbrev made : ℕ → Call → Event
 made t c = record { time = t; call = c }
-
--- a whole record whose call was read
-pub event-read : (r : List ℕ) (n t : ℕ) (c : Call) → length r ≡ 8 → n ≡ le16 r 6 → t ≡ le32 r 0 → call-of (byte r 4) (byte r 5) n ≡ Some c → Some (made t c) ≡ event-of r
-event-read r n t c long e f h = go (whole r) (call-of (byte r 4) (byte r 5) (le16 r 6)) (eq-eqb (length r) 8 long) (ap (call-of (byte r 4) (byte r 5)) (sym e) ∙ h)
-  where
-    go : (w : Bool) (o : Option Call) → w ≡ true → o ≡ Some c → Some (made t c) ≡ cond w (mapped (made (le32 r 0)) o) None
-    go w o a b = simp (a, b, f)
 
 -- the time of an event is that of its record
 pub event-time : (r : List ℕ) (o : Option Event) (e : Event) → o ≡ event-of r → o ≡ Some e → e .time ≡ le32 r 0

@@ -6,10 +6,10 @@ use lib.Dec.{eqb, leb}
 use lib.ListN.{length}
 use Rattle.std.specs.declared.option.Option.{Option}
 use Rattle.std.specs.declared.option.Option.the-variants.{None}
-use Rattle.trace.specs.declared.fault.Fault.{Fault}
+use Rattle.fault.specs.declared.Fault.{Fault}
 use Rattle.trace.specs.declared.contents.Section.{Section}
 use Rattle.trace.specs.Bytes.{byte, le16, le32}
-use Rattle.trace.specs.Faults.{bad-contents, _unless_, _else_}
+use Rattle.fault.specs.Faults.{bad-contents, _unless_, _else_}
 
 -- 1 (events) or 2 (setups, then events)
 abbrev pub sections : List ℕ → ℕ

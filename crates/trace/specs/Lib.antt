@@ -1,5 +1,4 @@
 pub mod Bytes
-pub mod Faults
 pub mod Letters
 pub mod Records
 pub mod Contents

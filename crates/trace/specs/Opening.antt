@@ -1,6 +1,6 @@
 -- Which files open, which fault any other has, and what an open trace holds.
 use mathlib.Core.Path.{_≡_}
-use mathlib.Core.Bool.{not}
+use mathlib.Core.Bool.{true, not}
 use mathlib.Core.List.{List}
 use mathlib.Core.Logic.{_⊎_}
 use Prim.Native.Nat.{ℕ, _+_, _-_, _*_, _<_, _≤_}
@@ -9,13 +9,13 @@ use lib.ListN.{length}
 use Rattle.std.specs.declared.option.Option.{Option}
 use Rattle.std.specs.declared.option.Option.the-variants.{None}
 use Rattle.std.specs.Options.{isSome}
-use Rattle.trace.specs.declared.fault.Fault.{Fault}
+use Rattle.fault.specs.declared.Fault.{Fault}
 use Rattle.trace.specs.declared.contents.Section.{Section}
 use Rattle.trace.specs.declared.record.Setup.{Setup}
 use Rattle.trace.specs.declared.record.Event.{Event}
 use Rattle.trace.specs.Bytes.{le32, record-at, held-by}
 use Rattle.trace.specs.Contents.{setups-section, events-section, contents-fault}
-use Rattle.trace.specs.Faults.{bad-field, time-falls, _unless_, _else_, first-fault}
+use Rattle.fault.specs.Faults.{bad-field, time-falls, _unless_, _else_, first-fault}
 use Rattle.trace.specs.Records.{setup-of, event-of}
 
 -- where record k of a section lies
@@ -60,6 +60,11 @@ fault-of file = contents-fault file else setups-fault file (setups-section file)
 -- a file that opens
 abbrev pub Well-formed : List ℕ → Type 0
 Well-formed file = fault-of file ≡ None
+
+-- every record of the file is a setup or an event
+pub record All-read (file : List ℕ) : Type 0 where
+  pub setups : (k : ℕ) → k < setups-section file .count → isSome (setup-at file (setups-section file) k) ≡ true
+  pub events : (k : ℕ) → k < events-section file .count → isSome (event-at file (events-section file) k) ≡ true
 
 -- the setups and the events of a section
 abbrev pub setups-in : List ℕ → Section → List Setup

@@ -6,9 +6,9 @@ ghost use Rattle.std.specs.Options.{mapped};
 ghost use Rattle.std.specs.Results.{errPart};
 ghost use Rattle.std.specs.Vec.{made};
 ghost use Rattle.trace.specs.Contents.{sections, records-in, setups-section, events-section, entry-fault, setups-entry-fault, events-entry-fault, head-fault, contents-fault};
-ghost use Rattle.trace.specs.Faults.{of-contents};
+ghost use Rattle.fault.specs.Faults.{of-contents};
 ghost use Rattle.trace.specs.Opening.{place};
-use crate::fault::ContentsFault;
+use fault::ContentsFault;
 use crate::little_endian::u16_at;
 use crate::little_endian::u32_at;
 
@@ -39,7 +39,7 @@ pub struct Section {
 
 impl Section {
     // Where record k lies; at the count, where the section ends.
-    pub fn place(self, k: u16) -> usize
+    pub(crate) fn place(self, k: u16) -> usize
         ensures { λ r. ⌜ r ≡ place self k ⌝ }
     {
         self.start as usize + RECORD * k as usize
@@ -53,7 +53,7 @@ pub struct Contents {
 }
 
 // The sections of a file, or its fault where the size or the table is wrong.
-pub fn read_contents(file: &[u8]) -> Result<Contents, ContentsFault>
+pub(crate) fn read_contents(file: &[u8]) -> Result<Contents, ContentsFault>
     ensures fault { λ r. ⌜ contents-fault (now (file .entry)) ≡ mapped of-contents (errPart r) ⌝ }
     ensures places { λ r. ⌜ made r (λ c. (c .setups ≡ setups-section (now (file .entry))) × (c .events ≡ events-section (now (file .entry)))) ⌝ }
 {

@@ -1,6 +1,5 @@
 // The trace file: its table of contents, its records, and the reader that borrows it.
 pub mod contents;
-pub mod fault;
 pub mod letters;
 mod little_endian;
 pub mod reader;

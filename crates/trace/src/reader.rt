@@ -7,15 +7,15 @@ ghost use Rattle.std.specs.Options.{mapped, Cases as BySome};
 ghost use Rattle.std.specs.Results.{errPart};
 ghost use Rattle.std.specs.Vec.{made};
 ghost use Rattle.trace.specs.Contents.{setups-section, events-section};
-ghost use Rattle.trace.specs.Faults.{of-record};
-ghost use Rattle.trace.specs.Opening.{Absent, Found, setup-at, event-at, time-at, event-fault, setups-fault, events-fault, fault-of};
+ghost use Rattle.fault.specs.Faults.{of-record};
+ghost use Rattle.trace.specs.Opening.{Absent, Found, setup-at, event-at, time-at, event-fault, setups-fault, events-fault, fault-of, All-read};
 use crate::contents::RECORD;
 use crate::contents::Section;
 use crate::contents::read_contents;
-use crate::fault::Fault;
-use crate::fault::FaultFromContents;
-use crate::fault::FaultFromRecord;
-use crate::fault::RecordFault;
+use fault::Fault;
+use fault::FaultFromContents;
+use fault::FaultFromRecord;
+use fault::RecordFault;
 use crate::record::Event;
 use crate::record::Record;
 use crate::record::Setup;
@@ -29,8 +29,16 @@ pub struct Trace<'a> {
 }
 
 impl<'a> Trace<'a> {
-    // Checks the contents, then every record in the file's order.
+    // Opens a file: its contents are judged, then every record in the file's order. Every record of an open trace can be read.
     pub fn open(file: &'a [u8]) -> Result<Trace<'a>, Fault>
+        ensures fault { λ r. ⌜ fault-of (now (file .entry)) ≡ errPart r ⌝ }
+        ensures holds { λ r. ⌜ made r (λ t. (now (t .file) ≡ now (file .entry)) × (t .setups ≡ setups-section (now (file .entry))) × (t .events ≡ events-section (now (file .entry)))) ⌝ }
+        ensures reads { λ r. ⌜ made r (λ _. All-read (now (file .entry))) ⌝ }
+    {
+        Trace::judge(file)
+    }
+
+    fn judge(file: &'a [u8]) -> Result<Trace<'a>, Fault>
         ensures fault { λ r. ⌜ fault-of (now (file .entry)) ≡ errPart r ⌝ }
         ensures holds { λ r. ⌜ made r (λ t. (now (t .file) ≡ now (file .entry)) × (t .setups ≡ setups-section (now (file .entry))) × (t .events ≡ events-section (now (file .entry)))) ⌝ }
     {
@@ -73,6 +81,7 @@ impl<'a> Trace<'a> {
         record_of(self.file, self.events, k)
     }
 
+    // Whether every setup can be read, in the file's order.
     fn check_setups(&self) -> Result<(), RecordFault>
         ensures { λ r. ⌜ setups-fault (now (now (self .entry) .file)) (now (self .entry) .setups) ≡ mapped of-record (errPart r) ⌝ }
     {
@@ -83,6 +92,7 @@ impl<'a> Trace<'a> {
         Ok(())
     }
 
+    // Whether every event can be read and none is earlier than the one before it, in the file's order.
     fn check_events(&self) -> Result<(), RecordFault>
         ensures { λ r. ⌜ events-fault (now (now (self .entry) .file)) (now (self .entry) .events) ≡ mapped of-record (errPart r) ⌝ }
     {

@@ -2,6 +2,8 @@
 ghost use mathlib.Core.Path.{_≡_};
 ghost use Rattle.trace.specs.Records.{kind-of, flag-of, setup-of, event-of};
 use crate::letters::call_of;
+use crate::little_endian::u16_at;
+use crate::little_endian::u32_at;
 use guest::call::Call;
 use interrupt::kind::Kind;
 
@@ -31,17 +33,14 @@ impl Record<'_> {
     pub fn setup(&self) -> Option<Setup>
         ensures { λ r. ⌜ r ≡ setup-of (now (now (self .entry) .bytes)) ⌝ }
     {
-        let [low, high, kind, priority, enabled, 0, 0, 0] = self.bytes else {
+        let [_, _, kind, priority, enabled, 0, 0, 0] = self.bytes else {
             return None;
         };
-        let number = u16::from_le_bytes([*low, *high]);
-        let kind = kind_of(*kind)?;
-        let enabled = flag_of(*enabled)?;
         Some(Setup {
-            number,
-            kind,
+            number: u16_at(self.bytes, 0),
+            kind: kind_of(*kind)?,
             priority: *priority,
-            enabled,
+            enabled: flag_of(*enabled)?,
         })
     }
 
@@ -49,12 +48,13 @@ impl Record<'_> {
     pub fn event(&self) -> Option<Event>
         ensures { λ r. ⌜ r ≡ event-of (now (now (self .entry) .bytes)) ⌝ }
     {
-        let [t0, t1, t2, t3, letter, aux, low, high] = self.bytes else {
+        let [_, _, _, _, letter, aux, _, _] = self.bytes else {
             return None;
         };
-        let call = call_of(*letter, *aux, u16::from_le_bytes([*low, *high]))?;
-        let time = u32::from_le_bytes([*t0, *t1, *t2, *t3]);
-        Some(Event { time, call })
+        Some(Event {
+            time: u32_at(self.bytes, 0),
+            call: call_of(*letter, *aux, u16_at(self.bytes, 6))?,
+        })
     }
 }
 

@@ -37,7 +37,7 @@ those-without f n [] = refl
 those-without f n (x ∷ xs) = let ih = those-without f n xs in grind (arith, tells)
 
 -- two tests that agree on the list pass the same
-those-same : (f g : ℕ → Bool) (xs : List ℕ) → ((m : ℕ) → has m xs ≡ true → f m ≡ g m) → those f xs ≡ those g xs
+pub those-same : (f g : ℕ → Bool) (xs : List ℕ) → ((m : ℕ) → has m xs ≡ true → f m ≡ g m) → those f xs ≡ those g xs
 those-same f g [] h = refl
 those-same f g (x ∷ xs) h =
     let ih = those-same f g xs (λ m e. h m (grind (arith, tells))) in

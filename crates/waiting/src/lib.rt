@@ -3,5 +3,3 @@ mod links;
 pub mod order;
 mod queues;
 mod rings;
-#[cfg(test)]
-mod tests;

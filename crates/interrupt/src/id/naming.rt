@@ -31,6 +31,6 @@ impl InterruptId {
         ensures value { λ r. ⌜ r ≡ id-of self ⌝ }
         ensures within { λ r. ⌜ r < 1020 ⌝ }
     {
-        self.number as usize
+        usize::from(self.number())
     }
 }

@@ -8,6 +8,7 @@ ghost use Rattle.interrupt.specs.Lists.{has};
 ghost use Rattle.interrupt.specs.Meaning.{id-of};
 ghost use Rattle.waiting.specs.Order.{waiting-list, waits-at};
 ghost use Rattle.guest.specs.Book.{Book, start, settle, first-in-turn};
+ghost use Rattle.guest.specs.Calls.{any-active};
 ghost use Rattle.guest.specs.Interrupts.{waits};
 ghost use Rattle.plain.specs.Meaning.{book-of};
 ghost use Rattle.plain.specs.Sources.{means};
@@ -52,6 +53,12 @@ impl PlainGuest {
         }
     }
 
+    fn any_active(&self) -> bool
+        ensures { λ r. ⌜ r ≡ any-active (book-of (now (self .entry))) ⌝ }
+    {
+        self.active != 0
+    }
+
     // The eligible interrupt of the most urgent priority, and of equals the earliest.
     fn first_in_turn(&self) -> Option<InterruptId>
         ensures { λ r. ⌜ mapped id-of r ≡ first-in-turn (book-of (now (self .entry))) ⌝ }
@@ -93,20 +100,20 @@ pub impl Guest for PlainGuest as PlainGuestCalls {
         let Some(id) = InterruptId::new(number) else {
             return Err(Refusal::UnknownInterrupt);
         };
-        let changed = self.table.enable(id);
+        let enabled = self.table.enable(id);
         let source = self.table.get(id);
         settle_order(&mut self.waiting, id, source);
-        Ok(changed)
+        Ok(enabled)
     }
 
     fn disable(&mut self, number: u32) -> Result<bool, Refusal> {
         let Some(id) = InterruptId::new(number) else {
             return Err(Refusal::UnknownInterrupt);
         };
-        let changed = self.table.disable(id);
+        let disabled = self.table.disable(id);
         let source = self.table.get(id);
         settle_order(&mut self.waiting, id, source);
-        Ok(changed)
+        Ok(disabled)
     }
 
     fn raise(&mut self, number: u32) -> Result<bool, Refusal> {
@@ -155,7 +162,7 @@ pub impl Guest for PlainGuest as PlainGuestCalls {
         if !self.running {
             return Err(Refusal::Parked);
         }
-        if self.active != 0 {
+        if self.any_active() {
             return Err(Refusal::InterruptActive);
         }
         self.cpu.mode = value;

@@ -2,7 +2,7 @@ use mathlib.Core.Path.{_≡_, sym, ap, _∙_}
 use Rattle.std.specs.Of.Vec.{vec-items}
 use Rattle.std.specs.declared.option.Option.{Option}
 use Rattle.std.proofs.shelf.Results.{made-weaker}
-use Rattle.trace.specs.declared.fault.Fault.{Fault}
+use Rattle.fault.specs.declared.Fault.{Fault}
 use Rattle.playback.specs.Output.{fault-or, report-in, output-of, Tells}
 use Rattle.playback.proofs.Played.{told}
 use Rattle.playback.proofs.output.output.Needs as need

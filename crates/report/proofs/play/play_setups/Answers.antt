@@ -2,7 +2,7 @@ use mathlib.Core.Path.{_≡_, sym, ap, _∙_}
 use native.Mathlib.Omega.{arith}
 use Rattle.std.specs.declared.option.Option.the-variants.{Some}
 use Rattle.std.proofs.shelf.Results.{err-from-errBy}
-use Rattle.trace.specs.Faults.{of-guest}
+use Rattle.fault.specs.Faults.{of-guest}
 use Rattle.report.specs.Reporting.{placed-at}
 use Rattle.report.proofs.Plays.{Set-up, set-up-none, set-up-more, set-up-exit}
 use Rattle.report.proofs.play.play_setups.Needs as need

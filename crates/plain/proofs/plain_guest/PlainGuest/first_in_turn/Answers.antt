@@ -6,9 +6,9 @@ use Rattle.interrupt.specs.Cpu.{admits}
 use Rattle.interrupt.specs.Lists.{first}
 use Rattle.interrupt.specs.Meaning.{members, cpu-of}
 use Rattle.interrupt.specs.Sets.{lowest}
-use Rattle.waiting.specs.Order.{waiting-list, waits-at}
+use Rattle.waiting.specs.Order.{of-priority, waiting-list, waits-at}
 use Rattle.plain.specs.Meaning.{book-of}
-use Rattle.plain.proofs.Turns.{Known, of-rank, nobody, not-admitted, admitted}
+use Rattle.plain.proofs.Turns.{Known, nobody, not-admitted, admitted}
 use Rattle.plain.proofs.plain_guest.PlainGuest.first_in_turn.Needs as need
 
 pub returns-in-Break-most-urgent : need.returns-in-Break-most-urgent
@@ -27,7 +27,7 @@ returns-then-admits c =
     let e = c .in-Continue-most-urgent .ensures tt in
     let p : c .in-Continue-most-urgent .most-urgent .level ≡ lowest 32 f = e .1 ∙ c .lowest .ensures in
     c .front .ensures
-    ∙ ap (λ (q : ℕ). first (of-rank (waits-at (s .waiting)) q (waiting-list (s .waiting)))) p
+    ∙ ap (λ (q : ℕ). first (of-priority (waits-at (s .waiting)) q (waiting-list (s .waiting)))) p
     ∙ admitted (book-of s) (waits-at (s .waiting)) f k (omega (arith, c .lowest .ensures, e .0)) (ap (admits (cpu-of (s .cpu))) (sym p) ∙ sym (c .admits .ensures) ∙ c .if-admits .taken)
 
 pub returns-else-admits : need.returns-else-admits

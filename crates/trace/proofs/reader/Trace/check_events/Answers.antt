@@ -1,6 +1,6 @@
 use mathlib.Core.Path.{refl, sym, _∙_}
-use Rattle.trace.specs.Faults.{of-record}
-use Rattle.trace.proofs.Faults.{first-none, first-more, first-exit}
+use Rattle.fault.specs.Faults.{of-record}
+use Rattle.fault.proofs.Faults.{first-none, first-more, first-exit}
 use Rattle.trace.proofs.Records.{time-next}
 use Rattle.trace.proofs.reader.Trace.check_events.Needs as need
 

@@ -1,6 +1,6 @@
 use borrow.Author.Needs.{needs}
-use Rattle.trace.specs.Faults.{of-record}
-use Rattle.trace.proofs.Faults.{first-none, first-more, first-exit}
+use Rattle.fault.specs.Faults.{of-record}
+use Rattle.fault.proofs.Faults.{first-none, first-more, first-exit}
 use Rattle.trace.proofs.reader.Trace.check_setups.Needs as need
 
 pub loop-k-holds : need.loop-k-holds

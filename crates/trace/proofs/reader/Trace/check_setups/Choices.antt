@@ -1,6 +1,6 @@
 use mathlib.Core.Path.{_≡_}
 use Rattle.std.specs.declared.option.Option.the-variants.{None}
-use Rattle.trace.specs.Faults.{first-fault}
+use Rattle.fault.specs.Faults.{first-fault}
 use Rattle.trace.specs.Opening.{setup-fault}
 use Rattle.trace.proofs.reader.Trace.check_setups.Given as given
 

@@ -16,10 +16,10 @@ pub ghost-self : need.ghost-self
 ghost-self c =
     let s = c .args .self .now in
     let n = id-of (c .in-Some .id) in
-    step (at-of (s .table)) (at-of (c .disable-changed .last .self)) (waiting-list (s .waiting)) (waiting-list (c .settle-order .last .waiting)) (waits-at (s .waiting)) (waits-at (c .settle-order .last .waiting)) n (with-enabled false (at-of (s .table) n)) (s .active) (s .active)
+    step (at-of (s .table)) (at-of (c .disable-disabled .last .self)) (waiting-list (s .waiting)) (waiting-list (c .settle-order .last .waiting)) (waits-at (s .waiting)) (waits-at (c .settle-order .last .waiting)) n (with-enabled false (at-of (s .table) n)) (s .active) (s .active)
     (record {
       named = id-below (c .in-Some .id);
-      became = c .disable-changed .ensures .after;
+      became = c .disable-disabled .ensures .after;
       settled = c .settle-order .ensures .list ∙ ap (λ (j : Interrupt). settle n (waits j) (waiting-list (s .waiting))) (c .get-source .ensures);
       ranks = λ m h. c .settle-order .ensures .ranks m h ∙ ap (λ (j : Interrupt). cond (eqb m n && not (has n (waiting-list (s .waiting)))) (j .priority) (waits-at (s .waiting) m)) (c .get-source .ensures);
       same = λ _. refl;

@@ -1,6 +1,0 @@
-use native.Mathlib.Omega.{arith}
-use Rattle.interrupt.proofs.Bits.{removed}
-use Rattle.interrupt.proofs.priority_set.PrioritySet.remove.Needs as need
-
-pub returns : need.returns
-returns c = removed 32 (c .args .self .now .word) (c .args .p .level) (c .level .result) (c .level .ensures .value) (c .level .ensures .within) (omega arith)
