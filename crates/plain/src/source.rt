@@ -19,10 +19,10 @@ pub enum State {
 
 #[derive(Clone, Copy)]
 pub struct Source {
-    kind: Kind,
-    priority: Priority,
-    enabled: bool,
-    dropped: bool,
+    pub kind: Kind,
+    pub priority: Priority,
+    pub enabled: bool,
+    pub dropped: bool,
     state: State,
 }
 
@@ -40,28 +40,10 @@ impl Source {
         }
     }
 
-    pub fn kind(self) -> Kind
-        ensures { λ r. ⌜ r ≡ means self .kind ⌝ }
-    {
-        self.kind
-    }
-
-    pub fn priority(self) -> Priority
-        ensures { λ r. ⌜ r .level ≡ means self .priority ⌝ }
-    {
-        self.priority
-    }
-
     pub fn is_active(self) -> bool
         ensures { λ r. ⌜ r ≡ means self .active ⌝ }
     {
         matches!(self.state, State::Active | State::Both)
-    }
-
-    pub fn is_dropped(self) -> bool
-        ensures { λ r. ⌜ r ≡ means self .dropped ⌝ }
-    {
-        self.dropped
     }
 
     // Enabled, pending and not active.

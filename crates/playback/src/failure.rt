@@ -1,8 +1,8 @@
 // What can go wrong on the way to a report: a fault of the trace, or want of memory.
 ghost use mathlib.Core.Path.{_≡_};
 ghost use Rattle.playback.specs.declared.failure.Failure.the-variants.{Faulty, Memory};
-use std::alloc::AllocError;
 use fault::Fault;
+use std::alloc::AllocError;
 
 #[derive(Clone, Copy)]
 pub enum Failure {

@@ -1,3 +1,3 @@
 // What the program `run` writes for a file: the report of the trace on a new guest, or the line of its fault.
-pub mod failure;
+mod failure;
 pub mod output;

@@ -8,12 +8,12 @@ ghost use Rattle.playback.specs.Output.{fault-line, fault-in, report-in, outpu
 use crate::failure::Failure;
 use crate::failure::FailureFromAlloc;
 use crate::failure::FailureFromFault;
+use fault::Fault;
 use plain::plain_guest::PlainGuest;
 use plain::plain_guest::calls::PlainGuestCalls;
 use report::report::report;
 use std::alloc::AllocError;
 use std::alloc::Global;
-use fault::Fault;
 use trace::reader::Trace;
 
 // The report of the file on a new guest, or the line `fault layer cause place`.

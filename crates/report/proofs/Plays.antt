@@ -14,8 +14,8 @@ use Rattle.guest.specs.Book.{Book}
 use Rattle.guest.specs.Calls.{next, says, refusal-of, unless}
 use Rattle.guest.specs.Replies.{Said}
 use Rattle.fault.specs.declared.Fault.{Fault}
-use Rattle.trace.specs.declared.record.Event.{Event}
-use Rattle.trace.specs.Bytes.{held-by}
+use Rattle.records.specs.declared.record.Event.{Event}
+use Rattle.records.specs.Bytes.{held-by}
 use Rattle.fault.specs.Faults.{declined}
 use Rattle.trace.proofs.Held.{held-from, held-none, held-more, held-split}
 use Rattle.report.specs.Lines.{onto, line-of}

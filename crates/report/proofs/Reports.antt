@@ -10,7 +10,7 @@ use Rattle.std.specs.declared.result.Result.{Result}
 use Rattle.std.specs.declared.result.Result.the-variants.{Ok, Err}
 use Rattle.guest.specs.Book.{Book}
 use Rattle.fault.specs.declared.Fault.{Fault}
-use Rattle.trace.specs.declared.record.Event.{Event}
+use Rattle.records.specs.declared.record.Event.{Event}
 use Rattle.fault.specs.Faults.{area-too-small}
 use Rattle.report.specs.Lines.{onto, done-line}
 use Rattle.report.specs.Playing.{Placed, setup-declined, after-setups, after-events, lines, names-number, was-declined, count-of}

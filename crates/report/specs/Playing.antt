@@ -13,8 +13,8 @@ use Rattle.guest.specs.Book.{Book}
 use Rattle.guest.specs.Calls.{next, says, refusal-of, unless}
 use Rattle.guest.specs.Replies.{done, changed, acknowledged, Said}
 use Rattle.fault.specs.declared.Fault.{Fault}
-use Rattle.trace.specs.declared.record.Setup.{Setup}
-use Rattle.trace.specs.declared.record.Event.{Event}
+use Rattle.records.specs.declared.record.Setup.{Setup}
+use Rattle.records.specs.declared.record.Event.{Event}
 use Rattle.fault.specs.Faults.{declined}
 use Rattle.report.specs.Lines.{line-of}
 

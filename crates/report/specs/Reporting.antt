@@ -11,8 +11,8 @@ use Rattle.std.specs.Options.{mapped}
 use Rattle.guest.specs.Book.{Book}
 use Rattle.trace.specs.declared.contents.Section.{Section}
 use Rattle.fault.specs.declared.Fault.{Fault}
-use Rattle.trace.specs.declared.record.Event.{Event}
-use Rattle.trace.specs.Bytes.{held-by}
+use Rattle.records.specs.declared.record.Event.{Event}
+use Rattle.records.specs.Bytes.{held-by}
 use Rattle.fault.specs.Faults.{area-too-small}
 use Rattle.trace.specs.Opening.{place, setup-at}
 use Rattle.report.specs.Lines.{onto, done-line}

@@ -14,13 +14,13 @@ ghost use Rattle.report.specs.Lines.{onto};
 ghost use Rattle.report.specs.Playing.{configuring, set-up, setup-declined, after-setups, after-events, lines, names-number, was-declined, count-of};
 ghost use Rattle.report.specs.Reporting.{placed-at, placed-in};
 use crate::line::put_line;
+use fault::GuestFault;
 use guest::call::Answer;
 use guest::interface::Guest;
 use guest::perform::perform;
+use records::record::Setup;
 use refusal::Refusal;
-use fault::GuestFault;
 use trace::reader::Trace;
-use trace::record::Setup;
 
 // How many bytes were written, how many acknowledgements named a number, and how many events were declined.
 #[derive(Clone, Copy)]

@@ -9,11 +9,11 @@ use crate::line::LONGEST;
 use crate::line::put_done;
 use crate::play::play_events;
 use crate::play::play_setups;
-use guest::interface::Guest;
 use fault::ContentsFault;
 use fault::Fault;
 use fault::FaultFromContents;
 use fault::FaultFromGuest;
+use guest::interface::Guest;
 use trace::reader::Trace;
 
 // Plays the setups and then the events on the guest, writes the report from the area's front, and answers its length.

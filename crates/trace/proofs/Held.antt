@@ -6,7 +6,7 @@ use native.Mathlib.Omega.{arith}
 use native.Mathlib.Numerals.{add-one}
 use Rattle.std.specs.declared.option.Option.{Option}
 use Rattle.std.specs.Vec.{listOf}
-use Rattle.trace.specs.Bytes.{held-by}
+use Rattle.records.specs.Bytes.{held-by}
 
 -- what the m places from k on hold
 next : {A : Type 0} → ℕ → ℕ → (ℕ → Option A) → List A

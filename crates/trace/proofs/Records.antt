@@ -13,12 +13,12 @@ use Rattle.std.specs.declared.option.Option.the-variants.{Some, None}
 use Rattle.std.specs.Options.{mapped, isSome}
 use Rattle.guest.specs.declared.call.Call.{Call}
 use Rattle.trace.specs.declared.contents.Section.{Section}
-use Rattle.trace.specs.declared.record.Event.{Event}
-use Rattle.trace.specs.Bytes.{byte, le16, le32, record-at}
+use Rattle.records.specs.declared.record.Event.{Event}
+use Rattle.records.specs.Bytes.{byte, le16, le32, record-at}
 use Rattle.fault.specs.Faults.{time-falls, bad-field, _unless_, _else_}
-use Rattle.trace.specs.Letters.{call-of}
+use Rattle.records.specs.Letters.{call-of}
 use Rattle.trace.specs.Opening.{place, Absent, setup-at, event-at, time-at, event-fault}
-use Rattle.trace.specs.Records.{whole, event-of}
+use Rattle.records.specs.Records.{whole, event-of}
 
 abbrev made : ℕ → Call → Event
 made t c = record { time = t; call = c }

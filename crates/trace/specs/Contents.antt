@@ -8,7 +8,7 @@ use Rattle.std.specs.declared.option.Option.{Option}
 use Rattle.std.specs.declared.option.Option.the-variants.{None}
 use Rattle.fault.specs.declared.Fault.{Fault}
 use Rattle.trace.specs.declared.contents.Section.{Section}
-use Rattle.trace.specs.Bytes.{byte, le16, le32}
+use Rattle.records.specs.Bytes.{byte, le16, le32}
 use Rattle.fault.specs.Faults.{bad-contents, _unless_, _else_}
 
 -- 1 (events) or 2 (setups, then events)

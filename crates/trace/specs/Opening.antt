@@ -11,12 +11,12 @@ use Rattle.std.specs.declared.option.Option.the-variants.{None}
 use Rattle.std.specs.Options.{isSome}
 use Rattle.fault.specs.declared.Fault.{Fault}
 use Rattle.trace.specs.declared.contents.Section.{Section}
-use Rattle.trace.specs.declared.record.Setup.{Setup}
-use Rattle.trace.specs.declared.record.Event.{Event}
-use Rattle.trace.specs.Bytes.{le32, record-at, held-by}
+use Rattle.records.specs.declared.record.Setup.{Setup}
+use Rattle.records.specs.declared.record.Event.{Event}
+use Rattle.records.specs.Bytes.{le32, record-at, held-by}
 use Rattle.trace.specs.Contents.{setups-section, events-section, contents-fault}
 use Rattle.fault.specs.Faults.{bad-field, time-falls, _unless_, _else_, first-fault}
-use Rattle.trace.specs.Records.{setup-of, event-of}
+use Rattle.records.specs.Records.{setup-of, event-of}
 
 -- where record k of a section lies
 abbrev pub place : Section → ℕ → ℕ

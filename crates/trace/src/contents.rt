@@ -9,15 +9,15 @@ ghost use Rattle.trace.specs.Contents.{sections, records-in, setups-section, e
 ghost use Rattle.fault.specs.Faults.{of-contents};
 ghost use Rattle.trace.specs.Opening.{place};
 use fault::ContentsFault;
-use crate::little_endian::u16_at;
-use crate::little_endian::u32_at;
+use records::little_endian::u16_at;
+use records::little_endian::u32_at;
 
 const EDITION: u8 = 1;
 
 // the bytes before the table of contents, and those of an entry and of a record
-const HEAD: usize = 2;
+const HEAD: u32 = 2;
 
-const ENTRY: usize = 12;
+const ENTRY: u32 = 12;
 
 pub(crate) const RECORD: usize = 8;
 
@@ -87,7 +87,7 @@ fn read_setups(file: &[u8], number: u8) -> Result<Section, ContentsFault>
     ensures fault { λ r. ⌜ setups-entry-fault (now (file .entry)) ≡ mapped of-contents (errPart r) ⌝ }
     ensures section { λ r. ⌜ made r (λ s. (s ≡ setups-section (now (file .entry))) × (s .start ≤ 26) × (s .count ≤ 1020)) ⌝ }
 {
-    let start = (HEAD + ENTRY * number as usize) as u32;
+    let start = HEAD + ENTRY * number as u32;
     let count = if number == 2 {
         read_entry(file, 0, 'S', MOST_SETUPS, start)?
     } else {
@@ -114,17 +114,18 @@ fn read_entry(file: &[u8], k: u8, letter: char, most: u16, start: u32) -> Result
     ensures fault { λ r. ⌜ entry-fault (now (file .entry)) k letter most start ≡ mapped of-contents (errPart r) ⌝ }
     ensures records { λ r. ⌜ made r (λ n. (n ≡ records-in (now (file .entry)) k) × (n ≤ most)) ⌝ }
 {
-    let at = HEAD + ENTRY * k as usize;
-    if at + ENTRY > file.len() {
-        return Err(ContentsFault::Wrong(at));
+    let at = HEAD + ENTRY * k as u32;
+    let place = at as usize;
+    if place + ENTRY as usize > file.len() {
+        return Err(ContentsFault::Wrong(place));
     }
     let count = u16_at(file, at + 2);
-    let named = file[at] as char == letter && file[at + 1] == 0;
+    let named = file[place] as char == letter && file[place + 1] == 0;
     let lies = u32_at(file, at + 4) == start
         && u32_at(file, at + 8) as usize == RECORD * count as usize;
     if named && count <= most && lies {
         Ok(count)
     } else {
-        Err(ContentsFault::Wrong(at))
+        Err(ContentsFault::Wrong(place))
     }
 }

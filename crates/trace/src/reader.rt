@@ -16,9 +16,9 @@ use fault::Fault;
 use fault::FaultFromContents;
 use fault::FaultFromRecord;
 use fault::RecordFault;
-use crate::record::Event;
-use crate::record::Record;
-use crate::record::Setup;
+use records::record::Event;
+use records::record::Record;
+use records::record::Setup;
 
 // A file whose contents and records are right, and where its sections lie.
 #[derive(Clone, Copy)]

@@ -1,8 +1,8 @@
 // The turn of equals in the waiting order.
-use waiting::order::WaitingOrder;
 use interrupt::id::InterruptId;
 use interrupt::priority::Priority;
 use std::test::*;
+use waiting::order::WaitingOrder;
 
 // Of two at one priority the earlier comes first; once it has left and joined again, it comes last.
 #[test]

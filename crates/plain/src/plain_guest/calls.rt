@@ -33,7 +33,7 @@ fn settle_order(waiting: &mut WaitingOrder, id: InterruptId, source: Source)
     ensures ranks { λ _. ⌜ ((m : ℕ) → has m (waiting-list (now (waiting .exit))) ≡ true → waits-at (now (waiting .exit)) m ≡ cond (eqb m (id-of id) && not (has (id-of id) (waiting-list (now (waiting .entry))))) (means source .priority) (waits-at (now (waiting .entry)) m)) ⌝ }
 {
     if source.waits() {
-        waiting.join(id, source.priority());
+        waiting.join(id, source.priority);
     } else {
         waiting.leave(id);
     }
@@ -130,7 +130,7 @@ pub impl Guest for PlainGuest as PlainGuestCalls {
         let Some(id) = InterruptId::new(number) else {
             return Err(Refusal::UnknownInterrupt);
         };
-        if matches!(self.table.get(id).kind(), Kind::Edge) {
+        if matches!(self.table.get(id).kind, Kind::Edge) {
             return Err(Refusal::WrongKind);
         }
         let was_set = self.table.lower(id);
@@ -176,7 +176,7 @@ pub impl Guest for PlainGuest as PlainGuestCalls {
         let Some(id) = self.first_in_turn() else {
             return Ok(None);
         };
-        let priority = self.table.get(id).priority();
+        let priority = self.table.get(id).priority;
         self.table.acknowledge(id);
         self.cpu.active.insert(priority);
         self.waiting.leave(id);
@@ -192,9 +192,9 @@ pub impl Guest for PlainGuest as PlainGuestCalls {
             return Err(Refusal::UnknownWord);
         };
         let source = self.table.get(id);
-        let priority = source.priority();
+        let priority = source.priority;
         if !source.is_active()
-            || source.is_dropped()
+            || source.dropped
             || priority.level() as u32 != self.cpu.running_priority()
         {
             return Err(Refusal::NotRunningPriority);
@@ -218,7 +218,7 @@ pub impl Guest for PlainGuest as PlainGuestCalls {
             return Err(Refusal::UnknownWord);
         };
         let source = self.table.get(id);
-        if matches!(self.cpu.mode, EoiMode::Joined) || !source.is_active() || !source.is_dropped() {
+        if matches!(self.cpu.mode, EoiMode::Joined) || !source.is_active() || !source.dropped {
             return Err(Refusal::NotDropped);
         }
         self.table.deactivate(id);

@@ -1,4 +1,4 @@
-use Rattle.trace.specs.Bytes.{record-at}
+use Rattle.records.specs.Bytes.{record-at}
 use Rattle.trace.specs.Opening.{place}
 use Rattle.trace.proofs.Records.{event-time, event-early, event-in-time}
 use Rattle.trace.proofs.reader.Trace.check_event.Needs as need

@@ -9,10 +9,10 @@ use Rattle.std.specs.declared.option.Option.the-variants.{Some, None}
 use Rattle.std.specs.Options.{mapped}
 use Rattle.interrupt.specs.declared.kind.Kind.{Kind}
 use Rattle.interrupt.specs.declared.kind.Kind.the-variants.{Edge, Level}
-use Rattle.trace.specs.declared.record.Setup.{Setup}
-use Rattle.trace.specs.declared.record.Event.{Event}
-use Rattle.trace.specs.Bytes.{byte, le16, le32}
-use Rattle.trace.specs.Letters.{call-of}
+use Rattle.records.specs.declared.record.Setup.{Setup}
+use Rattle.records.specs.declared.record.Event.{Event}
+use Rattle.records.specs.Bytes.{byte, le16, le32}
+use Rattle.records.specs.Letters.{call-of}
 
 abbrev pub whole : List ℕ → Bool
 whole r = eqb (length r) 8

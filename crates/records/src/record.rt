@@ -1,6 +1,6 @@
 // Records: parts of the file, of 8 bytes each.
 ghost use mathlib.Core.Path.{_≡_};
-ghost use Rattle.trace.specs.Records.{kind-of, flag-of, setup-of, event-of};
+ghost use Rattle.records.specs.Records.{kind-of, flag-of, setup-of, event-of};
 use crate::letters::call_of;
 use crate::little_endian::u16_at;
 use crate::little_endian::u32_at;

@@ -1,6 +1,6 @@
 // The letters of events.
 ghost use mathlib.Core.Path.{_≡_};
-ghost use Rattle.trace.specs.Letters.{call-of, mode-of};
+ghost use Rattle.records.specs.Letters.{call-of, mode-of};
 use guest::call::Call;
 use interrupt::cpu_interface::EoiMode;
 
