@@ -14,12 +14,14 @@ use Rattle.guest.specs.Book.{Book}
 use Rattle.guest.specs.Calls.{next, says, refusal-of, unless}
 use Rattle.guest.specs.Replies.{Said}
 use Rattle.fault.specs.declared.Fault.{Fault}
+use Rattle.fault.specs.declared.GuestFault.{GuestFault}
 use Rattle.records.specs.declared.record.Event.{Event}
 use Rattle.records.specs.Bytes.{held-by}
-use Rattle.fault.specs.Faults.{declined}
+use Rattle.fault.specs.Faults.{of-guest}
 use Rattle.trace.proofs.Held.{held-from, held-none, held-more, held-split}
+use Rattle.report.specs.declared.play.Tally.{Tally}
 use Rattle.report.specs.Lines.{onto, line-of}
-use Rattle.report.specs.Playing.{Placed, configuring, set-up, declined-or, setup-declined, after-setups, after-events, lines, names-number, was-declined, count-of}
+use Rattle.report.specs.Playing.{Placed, configuring, set-up, declined-or, setup-declined, after-setups, after-events, lines, names-number, was-declined, count-of, Setups-played, Events-played}
 use Rattle.report.proofs.Area.{next-onto}
 
 -- setups
@@ -53,24 +55,29 @@ pub record Set-up (b : Book) (f : ℕ → Option Placed) (k : ℕ) (now : Book) 
 pub set-up-none : (b : Book) (f : ℕ → Option Placed) → Set-up b f 0 b
 set-up-none b f = record { granted = ap (setup-declined b) (held-none f); means = sym (ap (after-setups b) (held-none f)) }
 
-pub set-up-more : (b : Book) (f : ℕ → Option Placed) (k : ℕ) (now after : Book) → Set-up b f k now → setup-declined now (listOf (f k)) ≡ None → after ≡ after-setups now (listOf (f k)) → Set-up b f (k + 1) after
-set-up-more b f k now after s e a =
+pub set-up-more : (b : Book) (f : ℕ → Option Placed) (k : ℕ) (now after : Book) → Set-up b f k now → Setups-played now (listOf (f k)) after None → Set-up b f (k + 1) after
+set-up-more b f k now after s q =
+    let e = q .fault in
+    let a = q .means in
     let p = granted-append b (held-by k f) (listOf (f k)) (s .granted) in
     record {
       granted = ap (setup-declined b) (held-more k f) ∙ p .0 ∙ ap (λ (c : Book). setup-declined c (listOf (f k))) (sym (s .means)) ∙ e;
       means = a ∙ ap (λ (c : Book). after-setups c (listOf (f k))) (s .means) ∙ sym (p .1) ∙ sym (ap (after-setups b) (held-more k f));
     }
 
-pub set-up-exit : (b : Book) (f : ℕ → Option Placed) (k n : ℕ) (now after : Book) (x : Fault) → k < n → Set-up b f k now → setup-declined now (listOf (f k)) ≡ Some x → after ≡ after-setups now (listOf (f k)) →
-    (setup-declined b (held-by n f) ≡ Some x) × (after ≡ after-setups b (held-by n f))
-set-up-exit b f k n now after x h s e a =
+pub set-up-exit : (b : Book) (f : ℕ → Option Placed) (k n : ℕ) (now after : Book) (g : GuestFault) → k < n → Set-up b f k now → Setups-played now (listOf (f k)) after (Some g) → Setups-played b (held-by n f) after (Some g)
+set-up-exit b f k n now after g h s o =
+    let x = of-guest g in
+    let e = o .fault in
+    let a = o .means in
     let p = granted-append b (held-by k f) (listOf (f k)) (s .granted) in
     let there : setup-declined b (held-by k f ++ listOf (f k)) ≡ Some x = p .0 ∙ ap (λ (c : Book). setup-declined c (listOf (f k))) (sym (s .means)) ∙ e in
     let q = declined-append b (held-by k f ++ listOf (f k)) (held-from (k + 1) n f) x there in
-    let all : held-by n f ≡ (held-by k f ++ listOf (f k)) ++ held-from (k + 1) n f = held-split k n f h ∙ sym (append-assoc (held-by k f) (listOf (f k)) (held-from (k + 1) n f)) in (
-      ap (setup-declined b) all ∙ q .0,
-      a ∙ ap (λ (c : Book). after-setups c (listOf (f k))) (s .means) ∙ sym (p .1) ∙ sym (q .1) ∙ sym (ap (after-setups b) all),
-    )
+    let all : held-by n f ≡ (held-by k f ++ listOf (f k)) ++ held-from (k + 1) n f = held-split k n f h ∙ sym (append-assoc (held-by k f) (listOf (f k)) (held-from (k + 1) n f)) in
+    record {
+      fault = ap (setup-declined b) all ∙ q .0;
+      means = a ∙ ap (λ (c : Book). after-setups c (listOf (f k))) (s .means) ∙ sym (p .1) ∙ sym (q .1) ∙ sym (ap (after-setups b) all);
+    }
 
 -- events
 
@@ -96,59 +103,54 @@ count-one such b (Some e) = go (such (says (e .call) b))
     go t = grind arith
 
 -- the events of the first k places were played
-pub record Played (b : Book) (f : ℕ → Option Event) (old : List ℕ) (k : ℕ) (now : Book) (area : List ℕ) (used acknowledged declined : ℕ) : Type 0 where
-  pub means : now ≡ after-events b (held-by k f)
-  pub written : area ≡ onto (lines b (held-by k f)) old
-  pub long : used ≡ length (lines b (held-by k f))
-  pub acks : acknowledged ≡ count-of names-number b (held-by k f)
-  pub nos : declined ≡ count-of was-declined b (held-by k f)
-  pub few : used ≤ 20 * k
-  pub some-acks : acknowledged ≤ k
-  pub some-nos : declined ≤ k
+pub record Played (b : Book) (f : ℕ → Option Event) (old : List ℕ) (k : ℕ) (now : Book) (area : List ℕ) (t : Tally) : Type 0 where
+  pub played : Events-played b (held-by k f) now old area t
+  pub few : t .used ≤ 20 * k
+  pub some-acks : t .acknowledged ≤ k
+  pub some-nos : t .declined ≤ k
 
-pub played-none : (b : Book) (f : ℕ → Option Event) (old : List ℕ) → Played b f old 0 b old 0 0 0
+abbrev tally : ℕ → ℕ → ℕ → Tally
+tally u a d = record { used = u; acknowledged = a; declined = d }
+
+pub played-none : (b : Book) (f : ℕ → Option Event) (old : List ℕ) → Played b f old 0 b old (tally 0 0 0)
 played-none b f old =
     let e = held-none f in
     record {
-      means = sym (ap (after-events b) e);
-      written = sym (ap (λ (es : List Event). onto (lines b es) old) e);
-      long = sym (ap (λ (es : List Event). length (lines b es)) e);
-      acks = sym (ap (count-of names-number b) e);
-      nos = sym (ap (count-of was-declined b) e);
+      played = record {
+        means = sym (ap (after-events b) e);
+        written = sym (ap (λ (es : List Event). onto (lines b es) old) e);
+        used = sym (ap (λ (es : List Event). length (lines b es)) e);
+        acknowledged = sym (ap (count-of names-number b) e);
+        declined = sym (ap (count-of was-declined b) e);
+      };
       few = omega arith;
       some-acks = omega arith;
       some-nos = omega arith;
     }
 
--- what play_event ensures of event k
-pub record One (b : Book) (es : List Event) (old : List ℕ) (after : Book) (area : List ℕ) (used acknowledged declined : ℕ) : Type 0 where
-  pub means : after ≡ after-events b es
-  pub written : area ≡ onto (lines b es) old
-  pub long : used ≡ length (lines b es)
-  pub acks : acknowledged ≡ count-of names-number b es
-  pub nos : declined ≡ count-of was-declined b es
-  pub few : used ≤ 20
-
 pub played-more :
-    (b : Book) (f : ℕ → Option Event) (old : List ℕ) (k : ℕ) (now after : Book) (area part : List ℕ) (used acknowledged declined u a d rest : ℕ) →
-    Played b f old k now area used acknowledged declined → rest ≡ length area - used → One now (listOf (f k)) (take rest (drop used area)) after part u a d →
-    Played b f old (k + 1) after (putMid used rest area part) (used + u) (acknowledged + a) (declined + d)
-played-more b f old k now after area part used acknowledged declined u a d rest p r o =
+    (b : Book) (f : ℕ → Option Event) (old : List ℕ) (k : ℕ) (now after : Book) (area part : List ℕ) (t o : Tally) (rest : ℕ) →
+    Played b f old k now area t → rest ≡ length area - t .used → Events-played now (listOf (f k)) after (take rest (drop (t .used) area)) part o → o .used ≤ 20 →
+    Played b f old (k + 1) after (putMid (t .used) rest area part) (tally (t .used + o .used) (t .acknowledged + o .acknowledged) (t .declined + o .declined))
+played-more b f old k now after area part t o rest q r one few =
+    let p = q .played in
     let e = held-more k f in
     let m : now ≡ after-events b (held-by k f) = p .means in
     let l : lines now (listOf (f k)) ≡ lines (after-events b (held-by k f)) (listOf (f k)) = ap (λ (c : Book). lines c (listOf (f k))) m in
     let ca = ap (λ (c : Book). count-of names-number c (listOf (f k))) m in
     let cd = ap (λ (c : Book). count-of was-declined c (listOf (f k))) m in
     let all : lines b (held-by (k + 1) f) ≡ lines b (held-by k f) ++ lines now (listOf (f k)) =
-    ap (lines b) e ∙ lines-append b (held-by k f) (listOf (f k)) ∙ ap (λ (t : List ℕ). lines b (held-by k f) ++ t) (sym l) in
+    ap (lines b) e ∙ lines-append b (held-by k f) (listOf (f k)) ∙ ap (λ (x : List ℕ). lines b (held-by k f) ++ x) (sym l) in
     let alen = ap length all in
     record {
-      means = o .means ∙ ap (λ (c : Book). after-events c (listOf (f k))) m ∙ sym (after-append b (held-by k f) (listOf (f k))) ∙ sym (ap (after-events b) e);
-      written = next-onto (lines b (held-by k f)) (lines now (listOf (f k))) old area part used rest (p .written) (p .long) r (o .written) ∙ sym (ap (λ (t : List ℕ). onto t old) all);
-      long = omega (arith, p .long, o .long, alen, length-append (lines b (held-by k f)) (lines now (listOf (f k))));
-      acks = omega (arith, p .acks, o .acks, ca, ap (count-of names-number b) e, count-append names-number b (held-by k f) (listOf (f k)));
-      nos = omega (arith, p .nos, o .nos, cd, ap (count-of was-declined b) e, count-append was-declined b (held-by k f) (listOf (f k)));
-      few = omega (arith, p .few, o .few);
-      some-acks = omega (arith, p .some-acks, o .acks, count-one names-number now (f k));
-      some-nos = omega (arith, p .some-nos, o .nos, count-one was-declined now (f k));
+      played = record {
+        means = one .means ∙ ap (λ (c : Book). after-events c (listOf (f k))) m ∙ sym (after-append b (held-by k f) (listOf (f k))) ∙ sym (ap (after-events b) e);
+        written = next-onto (lines b (held-by k f)) (lines now (listOf (f k))) old area part (t .used) rest (p .written) (p .used) r (one .written) ∙ sym (ap (λ (x : List ℕ). onto x old) all);
+        used = omega (arith, p .used, one .used, alen, length-append (lines b (held-by k f)) (lines now (listOf (f k))));
+        acknowledged = omega (arith, p .acknowledged, one .acknowledged, ca, ap (count-of names-number b) e, count-append names-number b (held-by k f) (listOf (f k)));
+        declined = omega (arith, p .declined, one .declined, cd, ap (count-of was-declined b) e, count-append was-declined b (held-by k f) (listOf (f k)));
+      };
+      few = omega (arith, q .few, few);
+      some-acks = omega (arith, q .some-acks, one .acknowledged, count-one names-number now (f k));
+      some-nos = omega (arith, q .some-nos, one .declined, count-one was-declined now (f k));
     }

@@ -12,8 +12,9 @@ use Rattle.guest.specs.Book.{Book}
 use Rattle.fault.specs.declared.Fault.{Fault}
 use Rattle.records.specs.declared.record.Event.{Event}
 use Rattle.fault.specs.Faults.{area-too-small}
+use Rattle.report.specs.declared.play.Tally.{Tally}
 use Rattle.report.specs.Lines.{onto, done-line}
-use Rattle.report.specs.Playing.{Placed, setup-declined, after-setups, after-events, lines, names-number, was-declined, count-of}
+use Rattle.report.specs.Playing.{Placed, setup-declined, after-setups, after-events, lines, names-number, count-of, Events-played}
 use Rattle.report.specs.Reporting.{report-text, Reports}
 use Rattle.report.proofs.Area.{next-onto}
 
@@ -30,23 +31,22 @@ module _ (room : ℕ) (setups : List Placed) (events : List Event) (b : Book) (a
       }
 
   pub all-played :
-      (ready after : Book) (written part : List ℕ) (used acknowledged declined last rest : ℕ) → room ≤ length area → setup-declined b setups ≡ None → ready ≡ after-setups b setups →
-      after ≡ after-events ready events → written ≡ onto (lines ready events) area → used ≡ length (lines ready events) →
-      acknowledged ≡ count-of names-number ready events → declined ≡ count-of was-declined ready events → rest ≡ length written - used →
-      part ≡ onto (done-line acknowledged declined) (take rest (drop used written)) → last ≡ length (done-line acknowledged declined) →
-      Reports room setups events b after area (putMid used rest written part) (Ok (used + last))
-  all-played ready after written part used acknowledged declined last rest h d r a w u k n e p l =
-      let text : lines ready events ++ done-line acknowledged declined ≡ report-text (after-setups b setups) events =
-      ap (λ (t : List ℕ). lines ready events ++ t) (ap (λ (m : ℕ). done-line m declined) k ∙ ap (done-line (count-of names-number ready events)) n)
+      (ready after : Book) (written part : List ℕ) (t : Tally) (last rest : ℕ) → room ≤ length area → setup-declined b setups ≡ None → ready ≡ after-setups b setups →
+      Events-played ready events after area written t → rest ≡ length written - t .used →
+      part ≡ onto (done-line (t .acknowledged) (t .declined)) (take rest (drop (t .used) written)) → last ≡ length (done-line (t .acknowledged) (t .declined)) →
+      Reports room setups events b after area (putMid (t .used) rest written part) (Ok (t .used + last))
+  all-played ready after written part t last rest h d r q e p l =
+      let text : lines ready events ++ done-line (t .acknowledged) (t .declined) ≡ report-text (after-setups b setups) events =
+      ap (λ (x : List ℕ). lines ready events ++ x) (ap (λ (m : ℕ). done-line m (t .declined)) (q .acknowledged) ∙ ap (done-line (count-of names-number ready events)) (q .declined))
       ∙ ap (λ (c : Book). report-text c events) r in
-      let long : used + last ≡ length (report-text (after-setups b setups) events) =
-      omega (arith, length-append (lines ready events) (done-line acknowledged declined), ap length text) in
+      let long : t .used + last ≡ length (report-text (after-setups b setups) events) =
+      omega (arith, q .used, length-append (lines ready events) (done-line (t .acknowledged) (t .declined)), ap length text) in
       record {
         small = λ i. absurd (omega arith);
         stopped = λ f i s. let z : _≡_ {A = ℕ} 0 1 = cc in absurd (omega arith);
         done = λ i s. (
           ap Ok long,
-          a ∙ ap (λ (c : Book). after-events c events) r,
-          next-onto (lines ready events) (done-line acknowledged declined) area written part used rest w u e p ∙ ap (λ (t : List ℕ). onto t area) text,
+          q .means ∙ ap (λ (c : Book). after-events c events) r,
+          next-onto (lines ready events) (done-line (t .acknowledged) (t .declined)) area written part (t .used) rest (q .written) (q .used) e p ∙ ap (λ (x : List ℕ). onto x area) text,
         );
       }

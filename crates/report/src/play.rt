@@ -1,17 +1,13 @@
 // Setups and events, played one after another on any guest.
 ghost use mathlib.Core.Path.{_≡_};
-ghost use mathlib.Core.Bool.{cond};
-ghost use Prim.Native.Nat.{_+_, _*_, _≤_, _<_};
+ghost use Prim.Native.Nat.{_*_, _≤_, _<_};
 ghost use lib.ListN.{length};
 ghost use Rattle.std.specs.Results.{Cases, errPart};
-ghost use Rattle.std.specs.Options.{mapped};
 ghost use Rattle.std.specs.Vec.{listOf};
 ghost use Rattle.guest.specs.Calls.{refusal-of};
 ghost use Rattle.guest.specs.Replies.{as-reply};
-ghost use Rattle.fault.specs.Faults.{of-guest};
 ghost use Rattle.trace.specs.Opening.{event-at, events-in};
-ghost use Rattle.report.specs.Lines.{onto};
-ghost use Rattle.report.specs.Playing.{configuring, set-up, setup-declined, after-setups, after-events, lines, names-number, was-declined, count-of};
+ghost use Rattle.report.specs.Playing.{configuring, set-up, names-number, Setups-played, Events-played};
 ghost use Rattle.report.specs.Reporting.{placed-at, placed-in};
 use crate::line::put_line;
 use fault::GuestFault;
@@ -30,12 +26,17 @@ pub struct Tally {
     pub declined: u16,
 }
 
+const NOTHING: Tally = Tally {
+    used: 0,
+    acknowledged: 0,
+    declined: 0,
+};
+
 // Plays all setups, or those before the first that the guest declines.
 pub fn play_setups<G: Guest>(guest: &mut G, trace: &Trace) -> Result<(), GuestFault>
     requires { ⌜ G·Guest .sound (now guest) ⌝ }
     ensures kept { λ _. ⌜ G·Guest .sound (now (guest .exit)) ⌝ }
-    ensures fault { λ r. ⌜ setup-declined (G·Guest .book (now (guest .entry))) (placed-in (now (now (trace .entry) .file)) (now (trace .entry) .setups)) ≡ mapped of-guest (errPart r) ⌝ }
-    ensures does { λ _. ⌜ G·Guest .book (now (guest .exit)) ≡ after-setups (G·Guest .book (now (guest .entry))) (placed-in (now (now (trace .entry) .file)) (now (trace .entry) .setups)) ⌝ }
+    ensures played { λ r. ⌜ Setups-played (G·Guest .book (now (guest .entry))) (placed-in (now (now (trace .entry) .file)) (now (trace .entry) .setups)) (G·Guest .book (now (guest .exit))) (errPart r) ⌝ }
 {
     for k in 0..trace.setup_count() {
         play_setup(guest, trace, k)?;
@@ -48,8 +49,7 @@ fn play_setup<G: Guest>(guest: &mut G, trace: &Trace, k: u16) -> Result<(), Gues
     requires sound { ⌜ G·Guest .sound (now guest) ⌝ }
     requires within { ⌜ k < now trace .setups .count ⌝ }
     ensures kept { λ _. ⌜ G·Guest .sound (now (guest .exit)) ⌝ }
-    ensures fault { λ r. ⌜ setup-declined (G·Guest .book (now (guest .entry))) (listOf (placed-at (now (now (trace .entry) .file)) (now (trace .entry) .setups) k)) ≡ mapped of-guest (errPart r) ⌝ }
-    ensures does { λ _. ⌜ G·Guest .book (now (guest .exit)) ≡ after-setups (G·Guest .book (now (guest .entry))) (listOf (placed-at (now (now (trace .entry) .file)) (now (trace .entry) .setups) k)) ⌝ }
+    ensures played { λ r. ⌜ Setups-played (G·Guest .book (now (guest .entry))) (listOf (placed-at (now (now (trace .entry) .file)) (now (trace .entry) .setups) k)) (G·Guest .book (now (guest .exit))) (errPart r) ⌝ }
 {
     let Some(record) = trace.setup(k) else {
         return Ok(());
@@ -85,27 +85,18 @@ pub fn play_events<G: Guest>(guest: &mut G, trace: &Trace, area: &mut [u8]) -> T
     requires sound { ⌜ G·Guest .sound (now guest) ⌝ }
     requires room { ⌜ 20 * now trace .events .count ≤ length (now area) ⌝ }
     ensures kept { λ _. ⌜ G·Guest .sound (now (guest .exit)) ⌝ }
-    ensures does { λ _. ⌜ G·Guest .book (now (guest .exit)) ≡ after-events (G·Guest .book (now (guest .entry))) (events-in (now (now (trace .entry) .file)) (now (trace .entry) .events)) ⌝ }
-    ensures lines { λ _. ⌜ now (area .exit) ≡ onto (lines (G·Guest .book (now (guest .entry))) (events-in (now (now (trace .entry) .file)) (now (trace .entry) .events))) (now (area .entry)) ⌝ }
-    ensures used { λ r. ⌜ r .used ≡ length (lines (G·Guest .book (now (guest .entry))) (events-in (now (now (trace .entry) .file)) (now (trace .entry) .events))) ⌝ }
-    ensures acknowledged { λ r. ⌜ r .acknowledged ≡ count-of names-number (G·Guest .book (now (guest .entry))) (events-in (now (now (trace .entry) .file)) (now (trace .entry) .events)) ⌝ }
-    ensures declined { λ r. ⌜ r .declined ≡ count-of was-declined (G·Guest .book (now (guest .entry))) (events-in (now (now (trace .entry) .file)) (now (trace .entry) .events)) ⌝ }
+    ensures played { λ r. ⌜ Events-played (G·Guest .book (now (guest .entry))) (events-in (now (now (trace .entry) .file)) (now (trace .entry) .events)) (G·Guest .book (now (guest .exit))) (now (area .entry)) (now (area .exit)) r ⌝ }
     ensures bound { λ r. ⌜ r .used ≤ 20 * now (trace .entry) .events .count ⌝ }
 {
-    let mut used = 0;
-    let mut acknowledged = 0;
-    let mut declined = 0;
+    let mut tally = NOTHING;
     for k in 0..trace.event_count() {
+        let used = tally.used;
         let one = play_event(guest, trace, k, &mut area[used..]);
-        used += one.used;
-        acknowledged += one.acknowledged;
-        declined += one.declined;
+        tally.used += one.used;
+        tally.acknowledged += one.acknowledged;
+        tally.declined += one.declined;
     }
-    Tally {
-        used,
-        acknowledged,
-        declined,
-    }
+    tally
 }
 
 // Plays event k, and writes its line, if it has one, at the area's front.
@@ -114,26 +105,14 @@ fn play_event<G: Guest>(guest: &mut G, trace: &Trace, k: u16, area: &mut [u8]) -
     requires within { ⌜ k < now trace .events .count ⌝ }
     requires room { ⌜ 20 ≤ length (now area) ⌝ }
     ensures kept { λ _. ⌜ G·Guest .sound (now (guest .exit)) ⌝ }
-    ensures does { λ _. ⌜ G·Guest .book (now (guest .exit)) ≡ after-events (G·Guest .book (now (guest .entry))) (listOf (event-at (now (now (trace .entry) .file)) (now (trace .entry) .events) k)) ⌝ }
-    ensures lines { λ _. ⌜ now (area .exit) ≡ onto (lines (G·Guest .book (now (guest .entry))) (listOf (event-at (now (now (trace .entry) .file)) (now (trace .entry) .events) k))) (now (area .entry)) ⌝ }
-    ensures used { λ r. ⌜ r .used ≡ length (lines (G·Guest .book (now (guest .entry))) (listOf (event-at (now (now (trace .entry) .file)) (now (trace .entry) .events) k))) ⌝ }
-    ensures acknowledged { λ r. ⌜ r .acknowledged ≡ count-of names-number (G·Guest .book (now (guest .entry))) (listOf (event-at (now (now (trace .entry) .file)) (now (trace .entry) .events) k)) ⌝ }
-    ensures declined { λ r. ⌜ r .declined ≡ count-of was-declined (G·Guest .book (now (guest .entry))) (listOf (event-at (now (now (trace .entry) .file)) (now (trace .entry) .events) k)) ⌝ }
+    ensures played { λ r. ⌜ Events-played (G·Guest .book (now (guest .entry))) (listOf (event-at (now (now (trace .entry) .file)) (now (trace .entry) .events) k)) (G·Guest .book (now (guest .exit))) (now (area .entry)) (now (area .exit)) r ⌝ }
     ensures bound { λ r. ⌜ r .used ≤ 20 ⌝ }
 {
     let Some(record) = trace.event(k) else {
-        return Tally {
-            used: 0,
-            acknowledged: 0,
-            declined: 0,
-        };
+        return NOTHING;
     };
     let Some(event) = record.event() else {
-        return Tally {
-            used: 0,
-            acknowledged: 0,
-            declined: 0,
-        };
+        return NOTHING;
     };
     let said = perform(guest, event.call);
     let acknowledged = names_number(said) as u16;
