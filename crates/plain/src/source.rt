@@ -28,7 +28,7 @@ pub struct Source {
 
 impl Source {
     // An edge source of priority 0 with all flags clear.
-    pub fn blank() -> Source
+    pub(crate) fn blank() -> Source
         ensures { λ r. ⌜ means r ≡ blank ⌝ }
     {
         Source {
@@ -40,28 +40,28 @@ impl Source {
         }
     }
 
-    pub fn is_active(self) -> bool
+    pub(crate) fn is_active(self) -> bool
         ensures { λ r. ⌜ r ≡ means self .active ⌝ }
     {
         matches!(self.state, State::Active | State::Both)
     }
 
     // Enabled, pending and not active.
-    pub fn waits(self) -> bool
+    pub(crate) fn waits(self) -> bool
         ensures { λ r. ⌜ r ≡ waits (means self) ⌝ }
     {
         self.enabled && matches!(self.state, State::Pending)
     }
 
     // Not enabled, pending or active.
-    pub fn at_rest(self) -> bool
+    pub(crate) fn at_rest(self) -> bool
         ensures { λ r. ⌜ r ≡ at-rest (means self) ⌝ }
     {
         !self.enabled && matches!(self.state, State::Idle)
     }
 
     // Sets kind and priority of an interrupt at rest.
-    pub fn configure(&mut self, kind: Kind, priority: Priority)
+    pub(crate) fn configure(&mut self, kind: Kind, priority: Priority)
         requires { ⌜ at-rest (means (now self)) ≡ true ⌝ }
         ensures { λ _. ⌜ means (now (self .exit)) ≡ with-setup kind (priority .level) (means (now (self .entry))) ⌝ }
     {
@@ -70,7 +70,7 @@ impl Source {
     }
 
     // Enables it; true if it was disabled.
-    pub fn enable(&mut self) -> bool
+    pub(crate) fn enable(&mut self) -> bool
         ensures after { λ _. ⌜ means (now (self .exit)) ≡ with-enabled true (means (now (self .entry))) ⌝ }
         ensures value { λ r. ⌜ r ≡ not (means (now (self .entry)) .enabled) ⌝ }
     {
@@ -80,7 +80,7 @@ impl Source {
     }
 
     // Disables it; true if it was enabled.
-    pub fn disable(&mut self) -> bool
+    pub(crate) fn disable(&mut self) -> bool
         ensures after { λ _. ⌜ means (now (self .exit)) ≡ with-enabled false (means (now (self .entry))) ⌝ }
         ensures value { λ r. ⌜ r ≡ means (now (self .entry)) .enabled ⌝ }
     {
@@ -90,7 +90,7 @@ impl Source {
     }
 
     // Becomes pending; true if it was not.
-    pub fn raise(&mut self) -> bool
+    pub(crate) fn raise(&mut self) -> bool
         ensures after { λ _. ⌜ means (now (self .exit)) ≡ raised (means (now (self .entry))) ⌝ }
         ensures value { λ r. ⌜ r ≡ not (pending (means (now (self .entry)))) ⌝ }
     {
@@ -108,7 +108,7 @@ impl Source {
     }
 
     // Clears the line of a level source; true if it was set.
-    pub fn lower(&mut self) -> bool
+    pub(crate) fn lower(&mut self) -> bool
         requires { ⌜ means (now self) .kind ≡ Kind.Level ⌝ }
         ensures after { λ _. ⌜ means (now (self .exit)) ≡ with-line false (means (now (self .entry))) ⌝ }
         ensures value { λ r. ⌜ r ≡ means (now (self .entry)) .line ⌝ }
@@ -127,7 +127,7 @@ impl Source {
     }
 
     // Becomes active; an edge source's latch is cleared, a level source's line stays.
-    pub fn acknowledge(&mut self)
+    pub(crate) fn acknowledge(&mut self)
         ensures { λ _. ⌜ means (now (self .exit)) ≡ taken (means (now (self .entry))) ⌝ }
     {
         self.state = match (self.state, self.kind) {
@@ -138,7 +138,7 @@ impl Source {
     }
 
     // Joined, it is no longer active; split, it is dropped.
-    pub fn end(&mut self, mode: EoiMode)
+    pub(crate) fn end(&mut self, mode: EoiMode)
         ensures { λ _. ⌜ means (now (self .exit)) ≡ ended mode (means (now (self .entry))) ⌝ }
     {
         match mode {
@@ -148,7 +148,7 @@ impl Source {
     }
 
     // No longer active or dropped.
-    pub fn deactivate(&mut self)
+    pub(crate) fn deactivate(&mut self)
         ensures { λ _. ⌜ means (now (self .exit)) ≡ deactivated (means (now (self .entry))) ⌝ }
     {
         self.dropped = false;

@@ -21,7 +21,7 @@ pub struct Table {
 
 impl Table {
     // Every interrupt blank.
-    pub fn new() -> Table
+    pub(crate) fn new() -> Table
         ensures { λ r. ⌜ at-of r ≡ (λ _. blank) ⌝ }
     {
         Table {
@@ -29,14 +29,14 @@ impl Table {
         }
     }
 
-    pub fn get(&self, id: InterruptId) -> Source
+    pub(crate) fn get(&self, id: InterruptId) -> Source
         ensures { λ r. ⌜ means r ≡ at-of (now (self .entry)) (id-of id) ⌝ }
     {
         self.sources[id.place()]
     }
 
     // Sets kind and priority of an interrupt at rest.
-    pub fn configure(&mut self, id: InterruptId, kind: Kind, priority: Priority)
+    pub(crate) fn configure(&mut self, id: InterruptId, kind: Kind, priority: Priority)
         requires { ⌜ at-rest (at-of (now self) (id-of id)) ≡ true ⌝ }
         ensures { λ _. ⌜ at-of (now (self .exit)) ≡ put (id-of id) (with-setup kind (priority .level) (at-of (now (self .entry)) (id-of id))) (at-of (now (self .entry))) ⌝ }
     {
@@ -44,7 +44,7 @@ impl Table {
     }
 
     // Enables an interrupt; true if it was disabled.
-    pub fn enable(&mut self, id: InterruptId) -> bool
+    pub(crate) fn enable(&mut self, id: InterruptId) -> bool
         ensures after { λ _. ⌜ at-of (now (self .exit)) ≡ put (id-of id) (with-enabled true (at-of (now (self .entry)) (id-of id))) (at-of (now (self .entry))) ⌝ }
         ensures value { λ r. ⌜ r ≡ not ((at-of (now (self .entry)) (id-of id)) .enabled) ⌝ }
     {
@@ -52,7 +52,7 @@ impl Table {
     }
 
     // Disables an interrupt; true if it was enabled.
-    pub fn disable(&mut self, id: InterruptId) -> bool
+    pub(crate) fn disable(&mut self, id: InterruptId) -> bool
         ensures after { λ _. ⌜ at-of (now (self .exit)) ≡ put (id-of id) (with-enabled false (at-of (now (self .entry)) (id-of id))) (at-of (now (self .entry))) ⌝ }
         ensures value { λ r. ⌜ r ≡ (at-of (now (self .entry)) (id-of id)) .enabled ⌝ }
     {
@@ -60,7 +60,7 @@ impl Table {
     }
 
     // Makes an interrupt pending; true if it was not.
-    pub fn raise(&mut self, id: InterruptId) -> bool
+    pub(crate) fn raise(&mut self, id: InterruptId) -> bool
         ensures after { λ _. ⌜ at-of (now (self .exit)) ≡ put (id-of id) (raised (at-of (now (self .entry)) (id-of id))) (at-of (now (self .entry))) ⌝ }
         ensures value { λ r. ⌜ r ≡ not (pending (at-of (now (self .entry)) (id-of id))) ⌝ }
     {
@@ -68,7 +68,7 @@ impl Table {
     }
 
     // Clears the line of a level source; true if it was set.
-    pub fn lower(&mut self, id: InterruptId) -> bool
+    pub(crate) fn lower(&mut self, id: InterruptId) -> bool
         requires { ⌜ at-of (now self) (id-of id) .kind ≡ Kind.Level ⌝ }
         ensures after { λ _. ⌜ at-of (now (self .exit)) ≡ put (id-of id) (with-line false (at-of (now (self .entry)) (id-of id))) (at-of (now (self .entry))) ⌝ }
         ensures value { λ r. ⌜ r ≡ (at-of (now (self .entry)) (id-of id)) .line ⌝ }
@@ -77,21 +77,21 @@ impl Table {
     }
 
     // Makes an interrupt active.
-    pub fn acknowledge(&mut self, id: InterruptId)
+    pub(crate) fn acknowledge(&mut self, id: InterruptId)
         ensures { λ _. ⌜ at-of (now (self .exit)) ≡ put (id-of id) (taken (at-of (now (self .entry)) (id-of id))) (at-of (now (self .entry))) ⌝ }
     {
         self.sources[id.place()].acknowledge();
     }
 
     // Ends an interrupt in this EOI mode.
-    pub fn end(&mut self, id: InterruptId, mode: EoiMode)
+    pub(crate) fn end(&mut self, id: InterruptId, mode: EoiMode)
         ensures { λ _. ⌜ at-of (now (self .exit)) ≡ put (id-of id) (ended mode (at-of (now (self .entry)) (id-of id))) (at-of (now (self .entry))) ⌝ }
     {
         self.sources[id.place()].end(mode);
     }
 
     // Makes an interrupt no longer active or dropped.
-    pub fn deactivate(&mut self, id: InterruptId)
+    pub(crate) fn deactivate(&mut self, id: InterruptId)
         ensures { λ _. ⌜ at-of (now (self .exit)) ≡ put (id-of id) (deactivated (at-of (now (self .entry)) (id-of id))) (at-of (now (self .entry))) ⌝ }
     {
         self.sources[id.place()].deactivate();

@@ -15,7 +15,7 @@ use interrupt::id::InterruptId;
 use refusal::Refusal;
 
 // The longest line: ten digits of time, ` ack `, four of a number, and the line's end.
-pub const LONGEST: usize = 20;
+pub(crate) const LONGEST: usize = 20;
 
 // Two numbers with a text between them, and the line's end.
 fn put_numbers(area: &mut [u8], first: u32, between: &[u8], second: u32) -> usize
@@ -63,7 +63,7 @@ fn put_no(area: &mut [u8], time: u32, refusal: Refusal) -> usize
 }
 
 // The line of an event, if it has one: of each granted acknowledge, and of each declined event.
-pub fn put_line(area: &mut [u8], time: u32, said: Result<Answer, Refusal>) -> usize
+pub(crate) fn put_line(area: &mut [u8], time: u32, said: Result<Answer, Refusal>) -> usize
     requires { ⌜ 20 ≤ length (now area) ⌝ }
     ensures value { λ r. ⌜ r ≡ length (line-of time (as-reply said)) ⌝ }
     ensures after { λ _. ⌜ now (area .exit) ≡ onto (line-of time (as-reply said)) (now (area .entry)) ⌝ }
@@ -77,7 +77,7 @@ pub fn put_line(area: &mut [u8], time: u32, said: Result<Answer, Refusal>) -> us
 }
 
 // `done`, the acknowledgements that named a number, and the declined events.
-pub fn put_done(area: &mut [u8], acknowledged: u16, declined: u16) -> usize
+pub(crate) fn put_done(area: &mut [u8], acknowledged: u16, declined: u16) -> usize
     requires { ⌜ 20 ≤ length (now area) ⌝ }
     ensures value { λ r. ⌜ r ≡ length (done-line acknowledged declined) ⌝ }
     ensures after { λ _. ⌜ now (area .exit) ≡ onto (done-line acknowledged declined) (now (area .entry)) ⌝ }

@@ -20,7 +20,7 @@ use trace::reader::Trace;
 
 // How many bytes were written, how many acknowledgements named a number, and how many events were declined.
 #[derive(Clone, Copy)]
-pub struct Tally {
+pub(crate) struct Tally {
     pub used: usize,
     pub acknowledged: u16,
     pub declined: u16,
@@ -33,7 +33,7 @@ const NOTHING: Tally = Tally {
 };
 
 // Plays all setups, or those before the first that the guest declines.
-pub fn play_setups<G: Guest>(guest: &mut G, trace: &Trace) -> Result<(), GuestFault>
+pub(crate) fn play_setups<G: Guest>(guest: &mut G, trace: &Trace) -> Result<(), GuestFault>
     requires { ⌜ G·Guest .sound (now guest) ⌝ }
     ensures kept { λ _. ⌜ G·Guest .sound (now (guest .exit)) ⌝ }
     ensures played { λ r. ⌜ Setups-played (G·Guest .book (now (guest .entry))) (placed-in (now (now (trace .entry) .file)) (now (trace .entry) .setups)) (G·Guest .book (now (guest .exit))) (errPart r) ⌝ }
@@ -81,7 +81,7 @@ fn set_up<G: Guest>(guest: &mut G, setup: Setup) -> Result<(), Refusal>
 }
 
 // Plays all events, and writes their lines one after another from the area's front.
-pub fn play_events<G: Guest>(guest: &mut G, trace: &Trace, area: &mut [u8]) -> Tally
+pub(crate) fn play_events<G: Guest>(guest: &mut G, trace: &Trace, area: &mut [u8]) -> Tally
     requires sound { ⌜ G·Guest .sound (now guest) ⌝ }
     requires room { ⌜ 20 * now trace .events .count ≤ length (now area) ⌝ }
     ensures kept { λ _. ⌜ G·Guest .sound (now (guest .exit)) ⌝ }

@@ -6,7 +6,7 @@ ghost use Rattle.std.specs.Written.{decimal};
 ghost use Rattle.report.specs.Lines.{onto};
 
 // Writes the text, and returns its length.
-pub fn put_text(area: &mut [u8], text: &[u8]) -> usize
+pub(crate) fn put_text(area: &mut [u8], text: &[u8]) -> usize
     requires { ⌜ length (now text) ≤ length (now area) ⌝ }
     ensures value { λ r. ⌜ r ≡ length (now (text .entry)) ⌝ }
     ensures after { λ _. ⌜ now (area .exit) ≡ onto (now (text .entry)) (now (area .entry)) ⌝ }
@@ -17,7 +17,7 @@ pub fn put_text(area: &mut [u8], text: &[u8]) -> usize
 }
 
 // Writes the number in plain decimal, and returns how many digits it has.
-pub fn put_decimal(area: &mut [u8], n: u32) -> usize
+pub(crate) fn put_decimal(area: &mut [u8], n: u32) -> usize
     requires { ⌜ length (decimal n) ≤ length (now area) ⌝ }
     ensures value { λ r. ⌜ r ≡ length (decimal n) ⌝ }
     ensures after { λ _. ⌜ now (area .exit) ≡ onto (decimal n) (now (area .entry)) ⌝ }

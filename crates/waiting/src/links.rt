@@ -18,7 +18,7 @@ pub struct Links {
 
 impl Links {
     // Each place linked to itself.
-    pub fn new() -> Links
+    pub(crate) fn new() -> Links
         ensures next { λ r. ⌜ ((i : ℕ) → i < places → at (r .next) i ≡ i) ⌝ }
         ensures prev { λ r. ⌜ ((i : ℕ) → i < places → at (r .prev) i ≡ i) ⌝ }
     {
@@ -29,7 +29,7 @@ impl Links {
     }
 
     // `after` comes after `before`.
-    pub fn link(&mut self, before: u16, after: u16)
+    pub(crate) fn link(&mut self, before: u16, after: u16)
         requires { ⌜ before < places ⌝ }
         requires { ⌜ after < places ⌝ }
         ensures next { λ _. ⌜ now (self .exit) .next ≡ set (now (self .entry) .next) before after ⌝ }
@@ -52,7 +52,7 @@ fn own_places() -> [u16; PLACES]
 }
 
 // The end of the ring of this priority.
-pub fn end_of(priority: Priority) -> u16
+pub(crate) fn end_of(priority: Priority) -> u16
     ensures value { λ r. ⌜ r ≡ end-of (priority .level) ⌝ }
     ensures within { λ r. ⌜ r < places ⌝ }
 {

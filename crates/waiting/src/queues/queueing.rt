@@ -16,7 +16,7 @@ use interrupt::priority_set::PrioritySet;
 
 impl Queues {
     // Every queue is empty.
-    pub fn new() -> Queues
+    pub(crate) fn new() -> Queues
         ensures { λ r. ⌜ ((p : ℕ) → p < 32 → queue r p ≡ []) ⌝ }
     {
         Queues {
@@ -26,21 +26,21 @@ impl Queues {
     }
 
     // The first in the queue of this priority.
-    pub fn front(&self, priority: Priority) -> Option<InterruptId>
+    pub(crate) fn front(&self, priority: Priority) -> Option<InterruptId>
         ensures { λ r. ⌜ mapped id-of r ≡ first (queue (now (self .entry)) (priority .level)) ⌝ }
     {
         self.rings.front(priority)
     }
 
     // The priorities whose queue has anyone.
-    pub fn fronts(&self) -> PrioritySet
+    pub(crate) fn fronts(&self) -> PrioritySet
         ensures { λ r. ⌜ ((p : ℕ) → p < 32 → members r p ≡ filled (queue (now (self .entry)) p)) ⌝ }
     {
         self.fronts
     }
 
     // An interrupt that is in no queue becomes the last in that of this priority.
-    pub fn join(&mut self, id: InterruptId, priority: Priority)
+    pub(crate) fn join(&mut self, id: InterruptId, priority: Priority)
         requires { ⌜ ((p : ℕ) → p < 32 → has (id-of id) (queue (now self) p) ≡ false) ⌝ }
         ensures { λ _. ⌜ ((p : ℕ) → p < 32 → queue (now (self .exit)) p ≡ cond (eqb p (priority .level)) (queue (now (self .entry)) p ++ id-of id ∷ []) (queue (now (self .entry)) p)) ⌝ }
     {
@@ -49,7 +49,7 @@ impl Queues {
     }
 
     // An interrupt leaves the queue of this priority, the only one that it is in.
-    pub fn leave(&mut self, id: InterruptId, priority: Priority)
+    pub(crate) fn leave(&mut self, id: InterruptId, priority: Priority)
         requires { ⌜ ((p : ℕ) → p < 32 → has (id-of id) (queue (now self) p) ≡ eqb p (priority .level)) ⌝ }
         ensures { λ _. ⌜ ((p : ℕ) → p < 32 → queue (now (self .exit)) p ≡ without (id-of id) (queue (now (self .entry)) p)) ⌝ }
     {

@@ -16,7 +16,7 @@ use interrupt::priority::Priority;
 
 impl Rings {
     // No one is in any ring.
-    pub fn new() -> Rings
+    pub(crate) fn new() -> Rings
         ensures { λ r. ⌜ ((p : ℕ) → p < 32 → ring-list r p ≡ []) ⌝ }
     {
         Rings {
@@ -25,7 +25,7 @@ impl Rings {
     }
 
     // The first in the ring of this priority. Where there is none, the end is linked to itself, and it is no interrupt.
-    pub fn front(&self, priority: Priority) -> Option<InterruptId>
+    pub(crate) fn front(&self, priority: Priority) -> Option<InterruptId>
         ensures { λ r. ⌜ mapped id-of r ≡ first (ring-list (now (self .entry)) (priority .level)) ⌝ }
     {
         let end = end_of(priority);
@@ -33,7 +33,7 @@ impl Rings {
     }
 
     // An interrupt that is in no ring becomes the last in the ring of this priority.
-    pub fn join(&mut self, id: InterruptId, priority: Priority)
+    pub(crate) fn join(&mut self, id: InterruptId, priority: Priority)
         requires { ⌜ ((p : ℕ) → p < 32 → has (id-of id) (ring-list (now self) p) ≡ false) ⌝ }
         ensures { λ _. ⌜ ((p : ℕ) → p < 32 → ring-list (now (self .exit)) p ≡ cond (eqb p (priority .level)) (ring-list (now (self .entry)) p ++ id-of id ∷ []) (ring-list (now (self .entry)) p)) ⌝ }
     {
@@ -45,7 +45,7 @@ impl Rings {
     }
 
     // An interrupt leaves the ring that it is in.
-    pub fn leave(&mut self, id: InterruptId)
+    pub(crate) fn leave(&mut self, id: InterruptId)
         requires { ⌜ ((p : ℕ) × (p < 32) × (has (id-of id) (ring-list (now self) p) ≡ true)) ⌝ }
         ensures { λ _. ⌜ ((p : ℕ) → p < 32 → ring-list (now (self .exit)) p ≡ without (id-of id) (ring-list (now (self .entry)) p)) ⌝ }
     {
