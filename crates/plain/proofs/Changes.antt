@@ -1,46 +1,40 @@
--- What the calls leave of an interrupt's priority, of whether it is active, and of whether it waits.
-use mathlib.Core.Path.{_≡_, refl}
-use mathlib.Core.Bool.{Bool, true, false, not, _&&_}
+-- What every change leaves: the priority of an interrupt that waits.
+use mathlib.Core.Path.{_≡_, refl, ap, _∙_}
+use mathlib.Core.Bool.{Bool, true, false, cond, not, _&&_}
 use native.Mathlib.Omega.{arith}
 use Rattle.std.proofs.shelf.Ways.{tells}
 use Rattle.interrupt.specs.declared.kind.Kind.{Kind}
 use Rattle.interrupt.specs.declared.kind.Kind.the-variants.{Edge, Level}
 use Rattle.interrupt.specs.declared.cpu_interface.EoiMode.{EoiMode}
 use Rattle.interrupt.specs.declared.cpu_interface.EoiMode.the-variants.{Joined, Split}
-use Rattle.guest.specs.Interrupts.{Interrupt, by-kind, pending, waits, at-rest, with-latch, with-line, raised, taken}
+use Rattle.guest.specs.Interrupts.{Interrupt, by-kind, pending, waits, at-rest, with-setup, with-latch, with-line, with-dropped}
 use Rattle.guest.specs.Calls.{ended}
+use Rattle.plain.specs.declared.change.Change.{Change}
+use Rattle.plain.specs.declared.change.Change.the-variants.{Configure, Enable, Disable, Raise, Lower, Acknowledge, End, Deactivate}
+use Rattle.plain.specs.Changes.{changed}
 
-pub raised-priority : (i : Interrupt) → raised i .priority ≡ i .priority
-raised-priority i = go (i .kind)
-  where
-    go : (k : Kind) → by-kind k (with-latch true i) (with-line true i) .priority ≡ i .priority
-    go Edge = refl
-    go Level = refl
+by-kind-priority : (k : Kind) (i j : Interrupt) → i .priority ≡ j .priority → by-kind k i j .priority ≡ j .priority
+by-kind-priority Edge i j e = e
+by-kind-priority Level i j e = refl
 
-pub raised-active : (i : Interrupt) → raised i .active ≡ i .active
-raised-active i = go (i .kind)
-  where
-    go : (k : Kind) → by-kind k (with-latch true i) (with-line true i) .active ≡ i .active
-    go Edge = refl
-    go Level = refl
-
-pub ended-priority : (m : EoiMode) (i : Interrupt) → ended m i .priority ≡ i .priority
+ended-priority : (m : EoiMode) (i : Interrupt) → ended m i .priority ≡ i .priority
 ended-priority Joined i = refl
 ended-priority Split i = refl
 
-and-false : (x y : Bool) → (x && y && false) ≡ false
-and-false true true = refl
-and-false true false = refl
-and-false false y = refl
-
--- what is active does not wait
-pub taken-waits : (i : Interrupt) → waits (taken i) ≡ false
-taken-waits i = and-false (taken i .enabled) (pending (taken i))
-
--- what is at rest does not wait
-pub rest-waits : (i : Interrupt) → at-rest i ≡ true → waits i ≡ true → ⊥
-rest-waits i r w = go (i .enabled) (pending i) (i .active) r w
+-- what waits is not at rest
+not-at-rest : (i : Interrupt) → waits i ≡ true → at-rest i ≡ false
+not-at-rest i w = go (i .enabled) (pending i) (i .active) w
   where
-    go : (t x y : Bool) → (not t && not x && not y) ≡ true → (t && x && not y) ≡ true → ⊥
-    go true x y r w = grind (arith, tells)
-    go false x y r w = grind (arith, tells)
+    go : (t x y : Bool) → (t && x && not y) ≡ true → (not t && not x && not y) ≡ false
+    go true x y w = refl
+    go false x y w = grind (arith, tells)
+
+pub kept-priority : (c : Change) (i : Interrupt) → waits i ≡ true → changed c i .priority ≡ i .priority
+kept-priority (Configure k p) i w = ap (λ (t : Bool). cond t (with-setup k (p .level) i) i .priority) (not-at-rest i w)
+kept-priority Enable i w = refl
+kept-priority Disable i w = refl
+kept-priority Raise i w = by-kind-priority (i .kind) (with-latch true i) (with-line true i) refl
+kept-priority Lower i w = by-kind-priority (i .kind) i (with-line false i) refl
+kept-priority Acknowledge i w = refl
+kept-priority (End m) i w = ended-priority m i
+kept-priority Deactivate i w = refl

@@ -48,10 +48,6 @@ left-ranks xs ys rank new n p e r m h = go (eqb m n) refl (has-without m n xs)
     go true f g = absurd (false≢true (sym g ∙ ap (has m) (sym e) ∙ h))
     go false f g = r m f
 
--- one that does not wait leaves
-pub stops : (n : ℕ) (xs : List ℕ) (i : Interrupt) → waits i ≡ false → without n xs ≡ settle n (waits i) xs
-stops n xs i e = rw e refl
-
 -- the ghost fields of the guest
 abbrev pub Fields : (ℕ → Interrupt) → List ℕ → (ℕ → ℕ) → ℕ → Type 0
 Fields at xs rank active = All-wait at xs × (At-own-priority at xs rank × ((active ≡ count 1020 (λ m. at m .active)) × Unit {0}))

@@ -20,10 +20,10 @@ pub read : (sources : List Source) (n k : ℕ) (d : Source) → k ≡ n → k < 
 read sources n k d e h = ap means (getD-default sources k d no-source h) ∙ ap (in-place sources) e
 
 -- interrupt n, at place k, becomes new
-pub changed :
+pub changed-at :
     (sources : List Source) (n k : ℕ) (d new : Source) (f : Interrupt → Interrupt) → k ≡ n → k < length sources → means new ≡ f (means (getD sources k d)) →
     in-place (set sources k new) ≡ put n (f (in-place sources n)) (in-place sources)
-changed sources n k d new f e h m = λ j i. each i (eqb i n) refl j
+changed-at sources n k d new f e h m = λ j i. each i (eqb i n) refl j
   where
     each : (i : ℕ) (t : Bool) → eqb i n ≡ t → means (getD (set sources k new) i no-source) ≡ cond t (f (in-place sources n)) (in-place sources i)
     each i true g =

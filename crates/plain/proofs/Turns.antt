@@ -1,7 +1,7 @@
 -- First in turn, found from the front of the most urgent priority.
-use mathlib.Core.Path.{_≡_, refl, sym, ap, subst, _∙_}
+use mathlib.Core.Path.{_≡_, refl, sym, ap, _∙_}
 use mathlib.Core.Logic.{_≢_, ⊎-elim}
-use mathlib.Core.Bool.{Bool, true, false, cond, not, _&&_, _||_}
+use mathlib.Core.Bool.{Bool, true, false, cond, _||_}
 use mathlib.Core.List.{List, [], _∷_}
 use Prim.Native.Nat.{ℕ, _≤_, _<_}
 use native.Mathlib.Omega.{arith}
@@ -17,7 +17,7 @@ use Rattle.interrupt.proofs.Lowest.{lowest-of}
 use Rattle.interrupt.proofs.Urgency.{admits-less}
 use Rattle.waiting.specs.Order.{of-priority}
 use Rattle.waiting.proofs.Lists.{those-same}
-use Rattle.guest.specs.Interrupts.{pending, waits}
+use Rattle.guest.specs.Interrupts.{waits}
 use Rattle.guest.specs.Book.{Book, sooner, first-by, eligible, priority-of, first-in-turn}
 
 -- nobody fits
@@ -48,36 +48,6 @@ first-least fit rank p (x ∷ xs) h = go (first-least fit rank p xs (λ m i. h m
     go : AtLeast rank p (first-by fit rank xs) → (t : Bool) → AtLeast rank p (cond t (sooner rank x (first-by fit rank xs)) (first-by fit rank xs))
     go r true = sooner-least rank p x (first-by fit rank xs) (h x (grind (arith, tells))) r
     go r false = r
-
--- what is found fits
-abbrev Fits : (ℕ → Bool) → Option ℕ → Type 0
-Fits fit None = Unit {0}
-Fits fit (Some y) = fit y ≡ true
-
-sooner-fits : (fit : ℕ → Bool) (rank : ℕ → ℕ) (x : ℕ) (o : Option ℕ) → fit x ≡ true → Fits fit o → Fits fit (sooner rank x o)
-sooner-fits fit rank x None e f = e
-sooner-fits fit rank x (Some y) e f = go (leb (rank x) (rank y))
-  where
-    go : (t : Bool) → Fits fit (cond t (Some x) (Some y))
-    go true = e
-    go false = f
-
-all-fits : (fit : ℕ → Bool) (rank : ℕ → ℕ) (xs : List ℕ) → Fits fit (first-by fit rank xs)
-all-fits fit rank [] = tt
-all-fits fit rank (x ∷ xs) = go (all-fits fit rank xs) (fit x) refl
-  where
-    go : Fits fit (first-by fit rank xs) → (t : Bool) → fit x ≡ t → Fits fit (cond t (sooner rank x (first-by fit rank xs)) (first-by fit rank xs))
-    go r true e = sooner-fits fit rank x (first-by fit rank xs) e r
-    go r false e = r
-
--- the first in turn is not active
-pub first-inactive : (b : Book) (n : ℕ) → first-in-turn b ≡ Some n → b .at n .active ≡ false
-first-inactive b n e =
-    let f : eligible b n ≡ true = subst (Fits (eligible b)) e (all-fits (eligible b) (priority-of b) (b .waiting)) in
-    go (b .at n .enabled) (pending (b .at n)) (b .at n .active) (admits (b .cpu) (priority-of b n)) f
-  where
-    go : (x y z w : Bool) → ((x && y && not z) && w) ≡ true → z ≡ false
-    go x y z w h = grind (arith, tells)
 
 -- the front of a priority has it
 abbrev HasRank : (ℕ → ℕ) → ℕ → Option ℕ → Type 0

@@ -1,3 +1,4 @@
+pub mod Changes
 pub mod Counts
 pub mod Kept
 pub mod Meaning

@@ -3,7 +3,10 @@ ghost use mathlib.Core.Path.{_≡_};
 ghost use mathlib.Core.Bool.{true, false, not};
 ghost use Rattle.guest.specs.Interrupts.{pending, waits, at-rest, blank, with-setup, with-enabled, with-line, with-active, with-dropped, raised, taken, deactivated};
 ghost use Rattle.guest.specs.Calls.{ended};
+ghost use Rattle.plain.specs.Changes.{changed, flips};
 ghost use Rattle.plain.specs.Sources.{means};
+ghost use Rattle.plain.specs.declared.change.Change.the-variants.{Configure, Lower};
+use crate::change::Change;
 use interrupt::cpu_interface::EoiMode;
 use interrupt::kind::Kind;
 use interrupt::priority::Priority;
@@ -60,17 +63,37 @@ impl Source {
         !self.enabled && matches!(self.state, State::Idle)
     }
 
-    // Sets kind and priority of an interrupt at rest.
-    pub(crate) fn configure(&mut self, kind: Kind, priority: Priority)
-        requires { ⌜ at-rest (means (now self)) ≡ true ⌝ }
-        ensures { λ _. ⌜ means (now (self .exit)) ≡ with-setup kind (priority .level) (means (now (self .entry))) ⌝ }
+    // Makes the change; true if that changed the flag that it sets.
+    pub(crate) fn change(&mut self, change: Change) -> bool
+        ensures after { λ _. ⌜ means (now (self .exit)) ≡ changed change (means (now (self .entry))) ⌝ }
+        ensures value { λ r. ⌜ r ≡ flips change (means (now (self .entry))) ⌝ }
     {
-        self.kind = kind;
-        self.priority = priority;
+        match change {
+            Change::Configure(kind, priority) => self.configure(kind, priority),
+            Change::Enable => self.enable(),
+            Change::Disable => self.disable(),
+            Change::Raise => self.raise(),
+            Change::Lower => self.lower(),
+            Change::Acknowledge => self.acknowledge(),
+            Change::End(mode) => self.end(mode),
+            Change::Deactivate => self.deactivate(),
+        }
+    }
+
+    // Sets kind and priority, if it is at rest.
+    fn configure(&mut self, kind: Kind, priority: Priority) -> bool
+        ensures after { λ _. ⌜ means (now (self .exit)) ≡ changed (Configure kind priority) (means (now (self .entry))) ⌝ }
+        ensures value { λ r. ⌜ r ≡ false ⌝ }
+    {
+        if self.at_rest() {
+            self.kind = kind;
+            self.priority = priority;
+        }
+        false
     }
 
     // Enables it; true if it was disabled.
-    pub(crate) fn enable(&mut self) -> bool
+    fn enable(&mut self) -> bool
         ensures after { λ _. ⌜ means (now (self .exit)) ≡ with-enabled true (means (now (self .entry))) ⌝ }
         ensures value { λ r. ⌜ r ≡ not (means (now (self .entry)) .enabled) ⌝ }
     {
@@ -80,7 +103,7 @@ impl Source {
     }
 
     // Disables it; true if it was enabled.
-    pub(crate) fn disable(&mut self) -> bool
+    fn disable(&mut self) -> bool
         ensures after { λ _. ⌜ means (now (self .exit)) ≡ with-enabled false (means (now (self .entry))) ⌝ }
         ensures value { λ r. ⌜ r ≡ means (now (self .entry)) .enabled ⌝ }
     {
@@ -90,7 +113,7 @@ impl Source {
     }
 
     // Becomes pending; true if it was not.
-    pub(crate) fn raise(&mut self) -> bool
+    fn raise(&mut self) -> bool
         ensures after { λ _. ⌜ means (now (self .exit)) ≡ raised (means (now (self .entry))) ⌝ }
         ensures value { λ r. ⌜ r ≡ not (pending (means (now (self .entry)))) ⌝ }
     {
@@ -107,52 +130,57 @@ impl Source {
         }
     }
 
-    // Clears the line of a level source; true if it was set.
-    pub(crate) fn lower(&mut self) -> bool
-        requires { ⌜ means (now self) .kind ≡ Kind.Level ⌝ }
-        ensures after { λ _. ⌜ means (now (self .exit)) ≡ with-line false (means (now (self .entry))) ⌝ }
-        ensures value { λ r. ⌜ r ≡ means (now (self .entry)) .line ⌝ }
+    // Clears the line of a level source; true if it was set. An edge source has none.
+    fn lower(&mut self) -> bool
+        ensures after { λ _. ⌜ means (now (self .exit)) ≡ changed Lower (means (now (self .entry))) ⌝ }
+        ensures value { λ r. ⌜ r ≡ flips Lower (means (now (self .entry))) ⌝ }
     {
-        match self.state {
-            State::Pending => {
+        match (self.kind, self.state) {
+            (Kind::Level, State::Pending) => {
                 self.state = State::Idle;
                 true
             }
-            State::Both => {
+            (Kind::Level, State::Both) => {
                 self.state = State::Active;
                 true
             }
-            State::Idle | State::Active => false,
+            _ => false,
         }
     }
 
     // Becomes active; an edge source's latch is cleared, a level source's line stays.
-    pub(crate) fn acknowledge(&mut self)
-        ensures { λ _. ⌜ means (now (self .exit)) ≡ taken (means (now (self .entry))) ⌝ }
+    fn acknowledge(&mut self) -> bool
+        ensures after { λ _. ⌜ means (now (self .exit)) ≡ taken (means (now (self .entry))) ⌝ }
+        ensures value { λ r. ⌜ r ≡ false ⌝ }
     {
         self.state = match (self.state, self.kind) {
             (State::Idle | State::Active, _) => State::Active,
             (State::Pending | State::Both, Kind::Edge) => State::Active,
             (State::Pending | State::Both, Kind::Level) => State::Both,
         };
+        false
     }
 
     // Joined, it is no longer active; split, it is dropped.
-    pub(crate) fn end(&mut self, mode: EoiMode)
-        ensures { λ _. ⌜ means (now (self .exit)) ≡ ended mode (means (now (self .entry))) ⌝ }
+    fn end(&mut self, mode: EoiMode) -> bool
+        ensures after { λ _. ⌜ means (now (self .exit)) ≡ ended mode (means (now (self .entry))) ⌝ }
+        ensures value { λ r. ⌜ r ≡ false ⌝ }
     {
         match mode {
             EoiMode::Joined => self.leave_active(),
             EoiMode::Split => self.dropped = true,
         }
+        false
     }
 
     // No longer active or dropped.
-    pub(crate) fn deactivate(&mut self)
-        ensures { λ _. ⌜ means (now (self .exit)) ≡ deactivated (means (now (self .entry))) ⌝ }
+    fn deactivate(&mut self) -> bool
+        ensures after { λ _. ⌜ means (now (self .exit)) ≡ deactivated (means (now (self .entry))) ⌝ }
+        ensures value { λ r. ⌜ r ≡ false ⌝ }
     {
         self.dropped = false;
         self.leave_active();
+        false
     }
 
     fn leave_active(&mut self)

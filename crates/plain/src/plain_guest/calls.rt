@@ -1,18 +1,21 @@
 // The calls. None of them goes through the interrupts, so none takes longer as more of them wait.
 ghost use mathlib.Core.Path.{_≡_};
 ghost use mathlib.Core.Bool.{true, not, cond, _&&_};
-ghost use Prim.Native.Nat.{ℕ};
+ghost use Prim.Native.Nat.{ℕ, _+_, _≤_};
 ghost use lib.Dec.{eqb};
 ghost use Rattle.std.specs.Options.{mapped};
 ghost use Rattle.interrupt.specs.Lists.{has};
 ghost use Rattle.interrupt.specs.Meaning.{id-of};
 ghost use Rattle.waiting.specs.Order.{waiting-list, waits-at};
-ghost use Rattle.guest.specs.Book.{Book, start, settle, first-in-turn};
+ghost use Rattle.guest.specs.Book.{start, settle, touch, first-in-turn};
 ghost use Rattle.guest.specs.Calls.{any-active};
 ghost use Rattle.guest.specs.Interrupts.{waits};
+ghost use Rattle.plain.specs.Changes.{changed, flips};
+ghost use Rattle.plain.specs.Counts.{one-if};
 ghost use Rattle.plain.specs.Meaning.{book-of};
 ghost use Rattle.plain.specs.Sources.{means};
 use super::PlainGuest;
+use crate::change::Change;
 use crate::source::Source;
 use crate::table::Table;
 use guest::interface::Guest;
@@ -39,6 +42,19 @@ fn settle_order(waiting: &mut WaitingOrder, id: InterruptId, source: Source)
     }
 }
 
+// How many interrupts are active once one of them was and is active or not.
+fn recount(active: u16, was: bool, is: bool) -> u16
+    requires counted { ⌜ (was ≡ true → 1 ≤ active) ⌝ }
+    requires room { ⌜ active ≤ 1020 ⌝ }
+    ensures { λ r. ⌜ r + one-if was ≡ active + one-if is ⌝ }
+{
+    match (was, is) {
+        (false, true) => active + 1,
+        (true, false) => active - 1,
+        _ => active,
+    }
+}
+
 impl PlainGuest {
     // A new guest: it runs, closed, with every interrupt blank and none waiting.
     pub fn new() -> PlainGuest
@@ -51,6 +67,19 @@ impl PlainGuest {
             waiting: WaitingOrder::new(),
             active: 0,
         }
+    }
+
+    // The only place where an interrupt changes: the waiting order and the count of active ones follow.
+    fn change(&mut self, id: InterruptId, change: Change) -> bool
+        ensures book { λ _. ⌜ book-of (now (self .exit)) ≡ touch (id-of id) (changed change (book-of (now (self .entry)) .at (id-of id))) (book-of (now (self .entry))) ⌝ }
+        ensures value { λ r. ⌜ r ≡ flips change (book-of (now (self .entry)) .at (id-of id)) ⌝ }
+    {
+        let was_active = self.table.get(id).is_active();
+        let flipped = self.table.change(id, change);
+        let source = self.table.get(id);
+        settle_order(&mut self.waiting, id, source);
+        self.active = recount(self.active, was_active, source.is_active());
+        flipped
     }
 
     fn any_active(&self) -> bool
@@ -90,9 +119,7 @@ pub impl Guest for PlainGuest as PlainGuestCalls {
         if !self.table.get(id).at_rest() {
             return Err(Refusal::NotAtRest);
         }
-        self.table.configure(id, kind, priority);
-        let source = self.table.get(id);
-        settle_order(&mut self.waiting, id, source);
+        self.change(id, Change::Configure(kind, priority));
         Ok(())
     }
 
@@ -100,30 +127,21 @@ pub impl Guest for PlainGuest as PlainGuestCalls {
         let Some(id) = InterruptId::new(number) else {
             return Err(Refusal::UnknownInterrupt);
         };
-        let enabled = self.table.enable(id);
-        let source = self.table.get(id);
-        settle_order(&mut self.waiting, id, source);
-        Ok(enabled)
+        Ok(self.change(id, Change::Enable))
     }
 
     fn disable(&mut self, number: u32) -> Result<bool, Refusal> {
         let Some(id) = InterruptId::new(number) else {
             return Err(Refusal::UnknownInterrupt);
         };
-        let disabled = self.table.disable(id);
-        let source = self.table.get(id);
-        settle_order(&mut self.waiting, id, source);
-        Ok(disabled)
+        Ok(self.change(id, Change::Disable))
     }
 
     fn raise(&mut self, number: u32) -> Result<bool, Refusal> {
         let Some(id) = InterruptId::new(number) else {
             return Err(Refusal::UnknownInterrupt);
         };
-        let new = self.table.raise(id);
-        let source = self.table.get(id);
-        settle_order(&mut self.waiting, id, source);
-        Ok(new)
+        Ok(self.change(id, Change::Raise))
     }
 
     fn lower(&mut self, number: u32) -> Result<bool, Refusal> {
@@ -133,10 +151,7 @@ pub impl Guest for PlainGuest as PlainGuestCalls {
         if matches!(self.table.get(id).kind, Kind::Edge) {
             return Err(Refusal::WrongKind);
         }
-        let was_set = self.table.lower(id);
-        let source = self.table.get(id);
-        settle_order(&mut self.waiting, id, source);
-        Ok(was_set)
+        Ok(self.change(id, Change::Lower))
     }
 
     fn mask(&mut self, level: u32) -> Result<(), Refusal> {
@@ -177,10 +192,8 @@ pub impl Guest for PlainGuest as PlainGuestCalls {
             return Ok(None);
         };
         let priority = self.table.get(id).priority;
-        self.table.acknowledge(id);
+        self.change(id, Change::Acknowledge);
         self.cpu.active.insert(priority);
-        self.waiting.leave(id);
-        self.active += 1;
         Ok(Some(id))
     }
 
@@ -201,12 +214,7 @@ pub impl Guest for PlainGuest as PlainGuestCalls {
         }
         let mode = self.cpu.mode;
         self.cpu.active.remove(priority);
-        self.table.end(id, mode);
-        let source = self.table.get(id);
-        settle_order(&mut self.waiting, id, source);
-        if !source.is_active() {
-            self.active -= 1;
-        }
+        self.change(id, Change::End(mode));
         Ok(())
     }
 
@@ -221,10 +229,7 @@ pub impl Guest for PlainGuest as PlainGuestCalls {
         if matches!(self.cpu.mode, EoiMode::Joined) || !source.is_active() || !source.dropped {
             return Err(Refusal::NotDropped);
         }
-        self.table.deactivate(id);
-        let source = self.table.get(id);
-        settle_order(&mut self.waiting, id, source);
-        self.active -= 1;
+        self.change(id, Change::Deactivate);
         Ok(())
     }
 
