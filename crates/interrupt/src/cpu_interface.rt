@@ -7,7 +7,7 @@ use crate::priority::Priority;
 use crate::priority_set::PrioritySet;
 
 // EOI mode 0 or 1: whether an end also deactivates.
-#[derive(Clone, Copy, PartialEq, Eq, Debug)]
+#[derive(Clone, Copy)]
 pub enum EoiMode {
     // an end drops the priority and deactivates
     Joined,

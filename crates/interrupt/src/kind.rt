@@ -1,5 +1,5 @@
 // How an interrupt comes to be pending.
-#[derive(Clone, Copy, PartialEq, Eq, Debug)]
+#[derive(Clone, Copy)]
 pub enum Kind {
     // pending from a raise until it is acknowledged
     Edge,

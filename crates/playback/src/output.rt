@@ -41,7 +41,7 @@ fn play(heap: Global, file: &[u8]) -> Result<Vec<u8>, Failure>
     ensures { λ r. ⌜ Cases r (λ v. (fault-in (now (file .entry)) ≡ None) × (vec-items v ≡ report-in (now (file .entry)))) (λ e. Explains (now (file .entry)) e) ⌝ }
 {
     let trace = Trace::open(file)?;
-    let mut area = vec![in heap; 0u8; 20 * (trace.event_count() as usize + 1)]?;
+    let mut area = vec![in heap; 0u8; 20 * (trace.events.count as usize + 1)]?;
     let mut guest = PlainGuest::new();
     let used = report(&mut guest, &trace, area.as_mut_slice())?;
     area.truncate(used);

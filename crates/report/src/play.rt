@@ -38,7 +38,7 @@ pub(crate) fn play_setups<G: Guest>(guest: &mut G, trace: &Trace) -> Result<(), 
     ensures kept { λ _. ⌜ G·Guest .sound (now (guest .exit)) ⌝ }
     ensures played { λ r. ⌜ Setups-played (G·Guest .book (now (guest .entry))) (placed-in (now (now (trace .entry) .file)) (now (trace .entry) .setups)) (G·Guest .book (now (guest .exit))) (errPart r) ⌝ }
 {
-    for k in 0..trace.setup_count() {
+    for k in 0..trace.setups.count {
         play_setup(guest, trace, k)?;
     }
     Ok(())
@@ -89,7 +89,7 @@ pub(crate) fn play_events<G: Guest>(guest: &mut G, trace: &Trace, area: &mut [u8
     ensures bound { λ r. ⌜ r .used ≤ 20 * now (trace .entry) .events .count ⌝ }
 {
     let mut tally = NOTHING;
-    for k in 0..trace.event_count() {
+    for k in 0..trace.events.count {
         let used = tally.used;
         let one = play_event(guest, trace, k, &mut area[used..]);
         tally.used += one.used;

@@ -34,7 +34,7 @@ pub fn report<G: Guest>(guest: &mut G, trace: &Trace, area: &mut [u8]) -> Result
 fn check_room(trace: &Trace, size: usize) -> Result<(), ContentsFault>
     ensures { λ r. ⌜ Cases r (λ _. room-for (now (trace .entry) .events) ≤ size) (λ e. (size < room-for (now (trace .entry) .events)) × (e ≡ Area)) ⌝ }
 {
-    if size < LONGEST * (trace.event_count() as usize + 1) {
+    if size < LONGEST * (trace.events.count as usize + 1) {
         return Err(ContentsFault::Area);
     }
     Ok(())

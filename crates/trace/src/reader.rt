@@ -24,8 +24,8 @@ use records::record::Setup;
 #[derive(Clone, Copy)]
 pub struct Trace<'a> {
     file: &'a [u8],
-    setups: Section,
-    events: Section,
+    pub setups: Section,
+    pub events: Section,
 }
 
 impl<'a> Trace<'a> {
@@ -51,20 +51,6 @@ impl<'a> Trace<'a> {
         trace.check_setups()?;
         trace.check_events()?;
         Ok(trace)
-    }
-
-    // How many setups there are.
-    pub fn setup_count(&self) -> u16
-        ensures { λ r. ⌜ r ≡ now (self .entry) .setups .count ⌝ }
-    {
-        self.setups.count
-    }
-
-    // How many events there are.
-    pub fn event_count(&self) -> u16
-        ensures { λ r. ⌜ r ≡ now (self .entry) .events .count ⌝ }
-    {
-        self.events.count
     }
 
     // The record of setup k.

@@ -8,8 +8,9 @@ fn writes(heap: Global, file: &[u8], expected: &[u8]) -> Result<(), Fail> {
     check(text.as_slice() == expected)
 }
 
-// Refusal 15: the size, the edition, the number of sections, the one entry.
-const WRONG_TABLES: [(&[u8], &[u8]); 10] = [
+// Files, and what is written for each.
+const FILES: [(&[u8], &[u8]); 53] = [
+    // -- Refusal 15: the size, the edition, the number of sections, the one entry.
     // no bytes
     (b"", b"fault 1 15 0\n"),
     // 13 bytes
@@ -57,18 +58,7 @@ const WRONG_TABLES: [(&[u8], &[u8]); 10] = [
         b"\x01\x01E\x00\x01\x00\x0e\x00\x00\x00\x07\x00\x00\x00\x00\x00\x00\x00\x00\x00\x00",
         b"fault 1 15 2\n",
     ),
-];
-
-#[test]
-fn wrong_tables(rt: LibcRuntime) -> Result<(), Fail> {
-    for (file, expected) in WRONG_TABLES {
-        writes(rt.alloc(), file, expected)?;
-    }
-    Ok(())
-}
-
-// Refusal 15: two entries, and the end.
-const WRONG_ENTRIES: [(&[u8], &[u8]); 9] = [
+    // -- Refusal 15: two entries, and the end.
     // setups that come second
     (
         b"\x01\x02E\x00\x00\x00\x1a\x00\x00\x00\x00\x00\x00\x00S\x00\x00\x00\x1a\x00\x00\x00\x00\x00\x00\x00",
@@ -114,18 +104,7 @@ const WRONG_ENTRIES: [(&[u8], &[u8]); 9] = [
         b"\x01\x01E\x00\x01\x00\x0e\x00\x00\x00\x08\x00\x00\x00\x00\x00\x00\x00C\x00\x00\x00\x00",
         b"fault 1 15 0\n",
     ),
-];
-
-#[test]
-fn wrong_entries(rt: LibcRuntime) -> Result<(), Fail> {
-    for (file, expected) in WRONG_ENTRIES {
-        writes(rt.alloc(), file, expected)?;
-    }
-    Ok(())
-}
-
-// Refusal 16, setups and letters.
-const WRONG_SETUPS: [(&[u8], &[u8]); 8] = [
+    // -- Refusal 16, setups and letters.
     // an unknown kind
     (
         b"\x01\x02S\x00\x02\x00\x1a\x00\x00\x00\x10\x00\x00\x00E\x00\x00\x00*\x00\x00\x00\x00\x00\x00\x00(\x00e\x00\x01\x00\x00\x00)\x00x\x00\x01\x00\x00\x00",
@@ -166,18 +145,7 @@ const WRONG_SETUPS: [(&[u8], &[u8]); 8] = [
         b"\x01\x01E\x00\x01\x00\x0e\x00\x00\x00\x08\x00\x00\x00\x00\x00\x00\x00r\x00(\x00",
         b"fault 2 16 14\n",
     ),
-];
-
-#[test]
-fn wrong_setups(rt: LibcRuntime) -> Result<(), Fail> {
-    for (file, expected) in WRONG_SETUPS {
-        writes(rt.alloc(), file, expected)?;
-    }
-    Ok(())
-}
-
-// Refusals 16 and 17, events.
-const WRONG_EVENTS: [(&[u8], &[u8]); 11] = [
+    // -- Refusals 16 and 17, events.
     // an aux byte that a raise does not use
     (
         b"\x01\x01E\x00\x01\x00\x0e\x00\x00\x00\x08\x00\x00\x00\x00\x00\x00\x00R\x01(\x00",
@@ -233,18 +201,7 @@ const WRONG_EVENTS: [(&[u8], &[u8]); 11] = [
         b"\x01\x01E\x00\x03\x00\x0e\x00\x00\x00\x18\x00\x00\x00\x05\x00\x00\x00A\x00\x00\x00\x04\x00\x00\x00A\x00\x00\x00\x04\x00\x00\x00X\x00\x00\x00",
         b"fault 2 17 22\n",
     ),
-];
-
-#[test]
-fn wrong_events(rt: LibcRuntime) -> Result<(), Fail> {
-    for (file, expected) in WRONG_EVENTS {
-        writes(rt.alloc(), file, expected)?;
-    }
-    Ok(())
-}
-
-// Setups that the guest declines.
-const DECLINED_SETUPS: [(&[u8], &[u8]); 6] = [
+    // -- Setups that the guest declines.
     // a number above 1019
     (
         b"\x01\x02S\x00\x01\x00\x1a\x00\x00\x00\x08\x00\x00\x00E\x00\x01\x00\"\x00\x00\x00\x08\x00\x00\x00\xfc\x03e\x00\x01\x00\x00\x00\x00\x00\x00\x00A\x00\x00\x00",
@@ -275,18 +232,7 @@ const DECLINED_SETUPS: [(&[u8], &[u8]); 6] = [
         b"\x01\x02S\x00\x01\x00\x1a\x00\x00\x00\x08\x00\x00\x00E\x00\x00\x00\"\x00\x00\x00\x00\x00\x00\x00\x03\x00l\x20\x01\x00\x00\x00",
         b"fault 3 5 26\n",
     ),
-];
-
-#[test]
-fn declined_setups(rt: LibcRuntime) -> Result<(), Fail> {
-    for (file, expected) in DECLINED_SETUPS {
-        writes(rt.alloc(), file, expected)?;
-    }
-    Ok(())
-}
-
-// Reports.
-const REPORTS: [(&[u8], &[u8]); 9] = [
+    // -- Reports.
     // no events
     (
         b"\x01\x01E\x00\x00\x00\x0e\x00\x00\x00\x00\x00\x00\x00",
@@ -335,8 +281,8 @@ const REPORTS: [(&[u8], &[u8]); 9] = [
 ];
 
 #[test]
-fn reports(rt: LibcRuntime) -> Result<(), Fail> {
-    for (file, expected) in REPORTS {
+fn writes_each(rt: LibcRuntime) -> Result<(), Fail> {
+    for (file, expected) in FILES {
         writes(rt.alloc(), file, expected)?;
     }
     Ok(())

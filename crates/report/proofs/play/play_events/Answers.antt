@@ -11,12 +11,12 @@ loop-k-holds g c = (c .pre .sound, played-none (g .G·Guest .book (c .args .gues
 pub add-tally-in-loop-k : need.add-tally-in-loop-k
 add-tally-in-loop-k g c =
     let e = count-one names-number (g .G·Guest .book (c .loop-k .guest)) (event-at (c .args .trace .now .file .now) (c .args .trace .now .events) (c .loop-k .k)) in
-    omega (arith, c .play-event-one .ensures .played .acknowledged, c .loop-k .inv .1 .some-acks, c .event-count-k-end .ok)
+    omega (arith, c .play-event-one .ensures .played .acknowledged, c .loop-k .inv .1 .some-acks)
 
 pub add-tally-in-loop-k-2 : need.add-tally-in-loop-k-2
 add-tally-in-loop-k-2 g c =
     let e = count-one was-declined (g .G·Guest .book (c .loop-k .guest)) (event-at (c .args .trace .now .file .now) (c .args .trace .now .events) (c .loop-k .k)) in
-    omega (arith, c .play-event-one .ensures .played .declined, c .loop-k .inv .1 .some-nos, c .event-count-k-end .ok)
+    omega (arith, c .play-event-one .ensures .played .declined, c .loop-k .inv .1 .some-nos)
 
 pub loop-k-again : need.loop-k-again
 loop-k-again g c =
