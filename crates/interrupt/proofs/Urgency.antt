@@ -8,20 +8,10 @@ use Rattle.std.proofs.shelf.Ways.{tells}
 use Rattle.interrupt.specs.Cpu.{Cpu, admits, running-priority}
 use Rattle.interrupt.specs.Preemption.{may-preempt}
 
--- what is more urgent may preempt where something less urgent may
-pub more-urgent : (p q mask running : ℕ) → p ≤ q → may-preempt q mask running ≡ true → may-preempt p mask running ≡ true
-unfolding may-preempt
-more-urgent p q mask running h e = grind (arith, tells)
-
--- and what is less urgent may not where something more urgent may not
+-- what is less urgent may not preempt where something more urgent may not
 pub less-urgent : (p q mask running : ℕ) → p ≤ q → may-preempt p mask running ≡ false → may-preempt q mask running ≡ false
 unfolding may-preempt
 less-urgent p q mask running h e = grind (arith, tells)
-
--- nothing at the mask or past it preempts
-pub masked : (p mask running : ℕ) → mask ≤ p → may-preempt p mask running ≡ false
-unfolding may-preempt
-masked p mask running h = grind (arith, tells)
 
 -- and so a CPU interface that does not admit a priority admits none that is less urgent
 pub admits-less : (c : Cpu) (p q : ℕ) → p ≤ q → admits c p ≡ false → admits c q ≡ false

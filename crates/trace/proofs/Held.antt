@@ -30,10 +30,6 @@ pub held-step : {A : Type 0} (k n : ℕ) (f : ℕ → Option A) → k < n → he
 unfolding held-from next
 held-step k n f h = let e : n - k ≡ suc (n - (k + 1)) = omega arith in rw e refl
 
-pub held-end : {A : Type 0} (n : ℕ) (f : ℕ → Option A) → held-from n n f ≡ []
-unfolding held-from next
-held-end n f = let e : n - n ≡ 0 = omega arith in rw e refl
-
 onward : {A : Type 0} (m k : ℕ) (f : ℕ → Option A) → held-by (k + m) f ≡ held-by k f ++ next m k f
 unfolding next
 onward zero k f = let e : k + 0 ≡ k = omega arith in rw (e, append-nil)
@@ -44,9 +40,6 @@ onward (suc m) k f =
 pub held-parts : {A : Type 0} (k n : ℕ) (f : ℕ → Option A) → k ≤ n → held-by n f ≡ held-by k f ++ held-from k n f
 unfolding held-from
 held-parts k n f h = let e : k + (n - k) ≡ n = omega arith in ap (λ (i : ℕ). held-by i f) (sym e) ∙ onward (n - k) k f
-
-pub held-all : {A : Type 0} (n : ℕ) (f : ℕ → Option A) → held-by n f ≡ held-from 0 n f
-held-all n f = held-parts 0 n f (omega arith) ∙ rw (held-none f)
 
 -- what came before k, what k holds, and what comes after it
 pub held-split : {A : Type 0} (k n : ℕ) (f : ℕ → Option A) → k < n → held-by n f ≡ held-by k f ++ (listOf (f k) ++ held-from (k + 1) n f)

@@ -66,9 +66,6 @@ pub record All-read (file : List ℕ) : Type 0 where
   pub setups : (k : ℕ) → k < setups-section file .count → isSome (setup-at file (setups-section file) k) ≡ true
   pub events : (k : ℕ) → k < events-section file .count → isSome (event-at file (events-section file) k) ≡ true
 
--- the setups and the events of a section
-abbrev pub setups-in : List ℕ → Section → List Setup
-setups-in file s = held-by (s .count) (setup-at file s)
-
+-- the events of a section
 abbrev pub events-in : List ℕ → Section → List Event
 events-in file s = held-by (s .count) (event-at file s)
