@@ -11,6 +11,7 @@ and writes nothing, where two names would fall together.
 
 import os
 import re
+import subprocess
 import sys
 
 WORD = r"[A-Za-z_][A-Za-z0-9_']*(?:-[A-Za-z0-9_']+)+|[A-Za-z_][A-Za-z0-9_']*"
@@ -165,6 +166,8 @@ def main():
         if out != text:
             with open(p, "w", encoding="utf-8") as f:
                 f.write(out)
+    for c in sorted(crates):
+        subprocess.run(["rt", "fmt"], cwd=os.path.join("crates", c), stdout=subprocess.DEVNULL, check=True)
     print(f"respell: {len(names)} names")
 
 
