@@ -1,4 +1,6 @@
 // Faults of a trace: in which layer, for which refusal, at which byte of the file. Each layer has a fault type of its own, which `?` turns into a fault.
+#![tactic(auto)]
+
 ghost use Rattle.std.specs.Prelude.{◌≡◌};
 ghost use Rattle.fault.specs.Faults.{layer_number, of_contents, of_record, of_guest};
 

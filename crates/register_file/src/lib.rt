@@ -1,4 +1,6 @@
 // What a device is made of: registers and settings, however they are kept, and the steps of its calls.
+#![tactic(auto)]
+
 pub mod file;
 pub mod search;
 pub mod settings;

@@ -1,4 +1,6 @@
 // Drives a register device by hand: a command a line on standard input, and for each a line that answers it.
+#![tactic(auto)]
+
 use console::line::without_end;
 use register_commands::respond::respond;
 use register_device::device::RegisterDevice;

@@ -1,4 +1,6 @@
 // Reads a trace from standard input, and writes its report on a new guest, or the line of its fault.
+#![tactic(auto)]
+
 use playback::output::output;
 use std::io;
 use std::io::{Read, Write};

@@ -1,3 +1,5 @@
 // The trace file: its table of contents, and the reader that borrows it.
+#![tactic(auto)]
+
 pub mod contents;
 pub mod reader;

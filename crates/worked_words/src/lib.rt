@@ -1,4 +1,6 @@
 // Four worked words, as a device of four registers shows them.
+#![tactic(auto)]
+
 ghost use Rattle.std.specs.Prelude.{◌≡◌, Ok};
 ghost use Rattle.list_register.specs.Shown.{device_made};
 ghost use Rattle.register_device.specs.Meaning.{register_device};
