@@ -42,10 +42,10 @@ each s p h =
     record { linked = chain_from _ _ _ _ _ (s.linked p h); apart = apart_from _ (s.once p h); named = s.named p h }
 
 abbrev pub Sound : Links → Type 0
-Sound l = Linked l.next l.prev × (Once l.next × (Named l.next × Unit {0}))
+Sound l = Linked l.next l.prev × Once l.next × Named l.next
 
 pub sound : (l : Links) (q : ℕ → List ℕ) → Each l q → Sound l
-sound l q r = (λ p h. chain_to _ _ _ _ _ (here p h).linked, (λ p h. apart_to _ (here p h).apart, (λ p h. (here p h).named, tt)))
+sound l q r = (λ p h. chain_to _ _ _ _ _ (here p h).linked, λ p h. apart_to _ (here p h).apart, λ p h. (here p h).named)
   where
     here : Each l (ring (at l.next))
     here p h = subst (λ (xs : List ℕ). Ring (at l.next) (at l.prev) p xs) (sym (found _ _ p (q p) (r p h))) (r p h)

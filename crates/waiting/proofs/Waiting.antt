@@ -52,7 +52,7 @@ module _ (w : WaitingOrder) (id : InterruptId) (i : ℕ) (o : Option Priority) (
 -- the ghost fields, of arrivals a, queues q and priorities ps
 abbrev pub Kept : Rings → Queues → List (Option Priority) → Type 0
 Kept a q ps =
-    ((p : ℕ) → p < 31 → ring_list a (suc p) ≡ []) × (((p : ℕ) → p < 32 → queue q p ≡ those (λ m. eqb (level_at ps m) p) (ring_list a 0)) × (((m : ℕ) → has m (ring_list a 0) ≡ given ps m) × ((length ps ≡ interrupts) × Unit {0})))
+    ((p : ℕ) → p < 31 → ring_list a (suc p) ≡ []) × ((p : ℕ) → p < 32 → queue q p ≡ those (λ m. eqb (level_at ps m) p) (ring_list a 0)) × ((m : ℕ) → has m (ring_list a 0) ≡ given ps m) × (length ps ≡ interrupts)
 
 -- no one waits
 
@@ -64,13 +64,9 @@ given_none (suc k) (suc m) = given_none k m
 pub none_kept : (a : Rings) (q : Queues) → ((p : ℕ) → p < 32 → ring_list a p ≡ []) → ((p : ℕ) → p < 32 → queue q p ≡ []) → Kept a q (replicate interrupts None)
 none_kept a q b c = (
   λ p h. b (suc p) (omega arith),
-  (
-    λ p h. c p h ∙ sym (ap (those (λ m. eqb (level_at (replicate interrupts None) m) p)) (b 0 (omega arith))),
-    (
-      λ m. ap (has m) (b 0 (omega arith)) ∙ sym (given_none interrupts m),
-      (refl, tt),
-    ),
-  ),
+  λ p h. c p h ∙ sym (ap (those (λ m. eqb (level_at (replicate interrupts None) m) p)) (b 0 (omega arith))),
+  λ m. ap (has m) (b 0 (omega arith)) ∙ sym (given_none interrupts m),
+  refl,
 )
 
 -- who is in which queue
@@ -91,15 +87,11 @@ pub append_kept : (w : WaitingOrder) (id : InterruptId) (r : Priority) (i : ℕ)
 unfolding waiting_list
 append_kept w id r i a q e fresh b c = (
   λ p h. let k = b (suc p) (omega arith) in let j = w.single p h in grind (arith, nat_tests),
-  (
-    λ p h.
-        c p h ∙ ap (λ (xs : List ℕ). cond (eqb p r.level) (xs ++ id_of id ∷ []) xs) (w.parted p h)
-        ∙ sym (ap (those (λ m. eqb (level_at (set w.priorities i (Some r)) m) p)) (b 0 (omega arith)) ∙ of_priority_push (level_at w.priorities) (level_at (set w.priorities i (Some r))) p (ring_list w.arrivals 0) (id_of id) r.level fresh (level_written w id i (Some r) e)),
-    (
-      λ m. let x = has_push m (ring_list w.arrivals 0) (id_of id) in let z = given_written w id i (Some r) e m in let k = b 0 (omega arith) in let j = w.noted m in grind (arith, nat_tests),
-      (rw length-set w.sized, tt),
-    ),
-  ),
+  λ p h.
+      c p h ∙ ap (λ (xs : List ℕ). cond (eqb p r.level) (xs ++ id_of id ∷ []) xs) (w.parted p h)
+      ∙ sym (ap (those (λ m. eqb (level_at (set w.priorities i (Some r)) m) p)) (b 0 (omega arith)) ∙ of_priority_push (level_at w.priorities) (level_at (set w.priorities i (Some r))) p (ring_list w.arrivals 0) (id_of id) r.level fresh (level_written w id i (Some r) e)),
+  λ m. let x = has_push m (ring_list w.arrivals 0) (id_of id) in let z = given_written w id i (Some r) e m in let k = b 0 (omega arith) in let j = w.noted m in grind (arith, nat_tests),
+  rw length-set w.sized,
 )
 
 -- an interrupt that waits leaves
@@ -107,13 +99,9 @@ append_kept w id r i a q e fresh b c = (
 pub take_out_kept : (w : WaitingOrder) (id : InterruptId) (i : ℕ) (a : Rings) (q : Queues) → i ≡ id_of id → ((p : ℕ) → p < 32 → ring_list a p ≡ without (id_of id) (ring_list w.arrivals p)) → ((p : ℕ) → p < 32 → queue q p ≡ without (id_of id) (queue w.queues p)) → Kept a q (set w.priorities i None)
 take_out_kept w id i a q e b c = (
   λ p h. b (suc p) (omega arith) ∙ ap (without (id_of id)) (w.single p h),
-  (
-    λ p h.
-        c p h ∙ ap (without (id_of id)) (w.parted p h)
-        ∙ sym (ap (those (λ m. eqb (level_at (set w.priorities i None) m) p)) (b 0 (omega arith)) ∙ of_priority_without (level_at w.priorities) (level_at (set w.priorities i None)) p (ring_list w.arrivals 0) (id_of id) (λ m u. let v = level_written w id i None e m in grind (arith, nat_tests))),
-    (
-      λ m. let x = has_without m (id_of id) (ring_list w.arrivals 0) in let z = given_written w id i None e m in let k = ap (has m) (b 0 (omega arith)) in let j = w.noted m in grind (arith, nat_tests),
-      (rw length-set w.sized, tt),
-    ),
-  ),
+  λ p h.
+      c p h ∙ ap (without (id_of id)) (w.parted p h)
+      ∙ sym (ap (those (λ m. eqb (level_at (set w.priorities i None) m) p)) (b 0 (omega arith)) ∙ of_priority_without (level_at w.priorities) (level_at (set w.priorities i None)) p (ring_list w.arrivals 0) (id_of id) (λ m u. let v = level_written w id i None e m in grind (arith, nat_tests))),
+  λ m. let x = has_without m (id_of id) (ring_list w.arrivals 0) in let z = given_written w id i None e m in let k = ap (has m) (b 0 (omega arith)) in let j = w.noted m in grind (arith, nat_tests),
+  rw length-set w.sized,
 )

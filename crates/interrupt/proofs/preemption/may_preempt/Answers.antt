@@ -3,4 +3,4 @@ use Rattle.interrupt.proofs.preemption.may_preempt.Goals as goal
 
 pub returns : goal.returns
 unfolding may_preempt
-returns c = c.is-below-both.ensures
+returns c = c.is_below_both.ensures

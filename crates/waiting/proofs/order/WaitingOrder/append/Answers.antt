@@ -10,9 +10,10 @@ join-requires c = in_no_ring c.args.self.now c.args.id.number c.requires
 pub join-requires-2 : goal.join-requires-2
 join-requires-2 c = λ p h. let e = has_queue c.args.self.now c.args.id.number p h in grind (arith, nat_tests)
 
-pub invariant-of-self : goal.invariant-of-self
-invariant-of-self c =
-    append_kept c.args.self.now c.args.id c.args.priority c.place.result c.join.new.self c.join-2.new.self c.place.ensures.value c.requires c.join.ensures c.join-2.ensures
+pub invariant_of-self : goal.invariant_of-self
+invariant_of-self c =
+    let k = append_kept c.args.self.now c.args.id c.args.priority c.place.result c.join.new.self c.join-2.new.self c.place.ensures.value c.requires c.join.ensures c.join-2.ensures in
+    record { single = k.0; parted = k.1; noted = k.2; sized = k.3 }
 
 pub returns : goal.returns
 unfolding waiting_list waits_at

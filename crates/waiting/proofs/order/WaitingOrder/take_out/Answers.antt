@@ -11,9 +11,10 @@ leave-requires c = (0, omega arith, c.requires.waits)
 pub leave-requires-2 : goal.leave-requires-2
 leave-requires-2 c = λ p h. let e = has_queue c.args.self.now c.args.id.number p h in let f = c.requires.waits in let g = c.requires.level in grind (arith, nat_tests)
 
-pub invariant-of-self : goal.invariant-of-self
-invariant-of-self c =
-    take_out_kept c.args.self.now c.args.id c.place.result c.leave.new.self c.leave-2.new.self c.place.ensures.value c.leave.ensures c.leave-2.ensures
+pub invariant_of-self : goal.invariant_of-self
+invariant_of-self c =
+    let k = take_out_kept c.args.self.now c.args.id c.place.result c.leave.new.self c.leave-2.new.self c.place.ensures.value c.leave.ensures c.leave-2.ensures in
+    record { single = k.0; parted = k.1; noted = k.2; sized = k.3 }
 
 pub returns : goal.returns
 unfolding waiting_list waits_at

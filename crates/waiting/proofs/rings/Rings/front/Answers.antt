@@ -8,4 +8,4 @@ pub returns : goal.returns
 returns c =
     front_is c.args.self.now c.args.priority.level c.args.priority.known c.new.result
     (subst (λ (n : ℕ). MatchOption c.new.result (interrupts ≤ n) (λ i. (n < interrupts) × (id_of i ≡ n)))
-    (c.from.ensures ∙ ap (at c.args.self.now.links.next) c.end-of-end.ensures.value) c.new.ensures)
+    (c.from.ensures ∙ ap (at c.args.self.now.links.next) c.end_of-end.ensures.value) c.new.ensures)
