@@ -10,7 +10,7 @@ returns-in-Some g c =
     let m = g.F.RegisterFile.meaning c.args.file.now in
     let found : ℕ → Type 0 = λ w. Finds m.count m.at w (Some c.in-Some.j) in
     clash_found m c.args.k c.in-Some.j (entry_of c.args.entry) (g.met.F.RegisterFile.formed c.args.file.now).apart
-    (sym c.is_valid.ensures ∙ c.if-not-is-valid.false) (subst found c.number.ensures c.in-Some.ensures)
+    (sym c.is_valid.ensures ∙ c.if-not-is_valid.false) (subst found c.number.ensures c.in-Some.ensures)
 
 pub returns-in-None : goal.returns-in-None
 returns-in-None g c =

@@ -11,9 +11,9 @@ put-requires g c =
     let alone : Entry → Type 0 = λ e. Alone c.args.k e at in
     record {
       within = c.requires.within;
-      alone = subst alone (sym (c.with_state.ensures ∙ ap (with_state c.args.state) c.entry-at-entry.ensures)) (alone_with_state c.args.k c.args.state at (g.met.F.RegisterFile.formed c.args.file.now).apart c.requires.valid);
+      alone = subst alone (sym (c.with_state.ensures ∙ ap (with_state c.args.state) c.entry_at-entry.ensures)) (alone_with_state c.args.k c.args.state at (g.met.F.RegisterFile.formed c.args.file.now).apart c.requires.valid);
     }
 
 pub returns : goal.returns
 returns g c =
-    c.put.ensures ∙ ap (λ (e : Entry). with_entry c.args.k e (g.F.RegisterFile.meaning c.args.file.now)) (c.with_state.ensures ∙ ap (with_state c.args.state) c.entry-at-entry.ensures)
+    c.put.ensures ∙ ap (λ (e : Entry). with_entry c.args.k e (g.F.RegisterFile.meaning c.args.file.now)) (c.with_state.ensures ∙ ap (with_state c.args.state) c.entry_at-entry.ensures)

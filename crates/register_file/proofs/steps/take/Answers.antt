@@ -10,13 +10,13 @@ use Rattle.register_file.proofs.Lines.{taken_one, valid_chosen}
 use Rattle.register_file.proofs.Set.{active_set}
 use Rattle.register_file.proofs.steps.take.Goals as goal
 
-pub set-state-requires : goal.set-state-requires
-set-state-requires g c =
+pub set_state-requires : goal.set_state-requires
+set_state-requires g c =
     let m = g.F.RegisterFile.meaning c.args.file.now in
     let chosen_in : ℕ → Type 0 = λ n. c.args.k < n in
     record {
-      within = subst chosen_in (sym (ap (λ (n : Meaning). n.count) c.set-settings.ensures)) c.requires.chosen.0.within;
-      valid = λ _. ap (λ (n : Meaning). is_valid (n.at c.args.k).state) c.set-settings.ensures ∙ valid_chosen g.F.RegisterFile.before m c.args.k c.requires.chosen;
+      within = subst chosen_in (sym (ap (λ (n : Meaning). n.count) c.set_settings.ensures)) c.requires.chosen.0.within;
+      valid = λ _. ap (λ (n : Meaning). is_valid (n.at c.args.k).state) c.set_settings.ensures ∙ valid_chosen g.F.RegisterFile.before m c.args.k c.requires.chosen;
     }
 
 pub returns : goal.returns
@@ -25,9 +25,9 @@ returns g c =
     let h = c.settings-settings.ensures in
     let m = g.F.RegisterFile.meaning c.args.file.now in
     let k = c.args.k in
-    let p = c.entry-at-entry.result.priority.level in
-    let t = taken_one g.F.RegisterFile.before m k (entry_of c.entry-at-entry.result) (members c.insert.new.self) (g.F.RegisterFile.meaning c.set-state.new.file)
-    c.requires.live (g.met.F.RegisterFile.formed c.args.file.now).apart c.requires.chosen c.entry-at-entry.ensures
+    let p = c.entry_at-entry.result.priority.level in
+    let t = taken_one g.F.RegisterFile.before m k (entry_of c.entry_at-entry.result) (members c.insert.new.self) (g.F.RegisterFile.meaning c.set_state.new.file)
+    c.requires.live (g.met.F.RegisterFile.formed c.args.file.now).apart c.requires.chosen c.entry_at-entry.ensures
     (c.insert.ensures ∙ ap (λ (u : Cpu). put p true u.active) h.cpu)
-    (c.set-state.ensures ∙ ap (λ (n : Meaning). with_entry k (with_state Active (n.at k)) n) (c.set-settings.ensures ∙ active_set s m c.insert.new.self h)) in
+    (c.set_state.ensures ∙ ap (λ (n : Meaning). with_entry k (with_state Active (n.at k)) n) (c.set_settings.ensures ∙ active_set s m c.insert.new.self h)) in
     record { does = t.does; prefers = t.prefers }

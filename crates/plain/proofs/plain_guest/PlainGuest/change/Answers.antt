@@ -17,24 +17,24 @@ pub recount-self-requires : goal.recount-self-requires
 recount-self-requires c =
     let s = c.args.self.now in
     record {
-      counted = λ e. let k = count_some 1020 (id_of c.args.id) (actives s.table) (id_below c.args.id) (sym (c.is-active-was-active.ensures ∙ ap (λ (i : Interrupt). i.active) c.get.ensures) ∙ e) in omega (arith, s.counted);
+      counted = λ e. let k = count_some 1020 (id_of c.args.id) (actives s.table) (id_below c.args.id) (sym (c.is_active-was_active.ensures ∙ ap (λ (i : Interrupt). i.active) c.get.ensures) ∙ e) in omega (arith, s.counted);
       room = omega (arith, count_le 1020 (actives s.table), s.counted);
     }
 
-pub invariant-of-self : goal.invariant-of-self
-invariant-of-self c =
+pub invariant_of-self : goal.invariant_of-self
+invariant_of-self c =
     let s = c.args.self.now in
     let n = id_of c.args.id in
     let i = changed c.args.change (at_of s.table n) in
     let new : at_of c.change-flipped.new.self n ≡ i = ap (λ (f : ℕ → Interrupt). f n) c.change-flipped.ensures.after ∙ own n i (at_of s.table) in
-    let was = ap one_if (c.is-active-was-active.ensures ∙ ap (λ (j : Interrupt). j.active) c.get.ensures) in
+    let was = ap one_if (c.is_active-was_active.ensures ∙ ap (λ (j : Interrupt). j.active) c.get.ensures) in
     let is = ap one_if (c.is_active.ensures ∙ ap (λ (j : Interrupt). j.active) (c.get-source.ensures ∙ new)) in
-    step (at_of s.table) (at_of c.change-flipped.new.self) (waiting_list s.waiting) (waiting_list c.settle-order.new.waiting) (waits_at s.waiting) (waits_at c.settle-order.new.waiting) n i s.active c.recount-self.result
+    step (at_of s.table) (at_of c.change-flipped.new.self) (waiting_list s.waiting) (waiting_list c.settle_order.new.waiting) (waits_at s.waiting) (waits_at c.settle_order.new.waiting) n i s.active c.recount-self.result
     (record {
       named = id_below c.args.id;
       became = c.change-flipped.ensures.after;
-      settled = c.settle-order.ensures.list ∙ ap (λ (j : Interrupt). settle n (waits j) (waiting_list s.waiting)) c.get-source.ensures;
-      ranks = λ m h. c.settle-order.ensures.ranks m h ∙ ap (λ (j : Interrupt). cond (eqb m n && not (has n (waiting_list s.waiting))) j.priority (waits_at s.waiting m)) c.get-source.ensures;
+      settled = c.settle_order.ensures.list ∙ ap (λ (j : Interrupt). settle n (waits j) (waiting_list s.waiting)) c.get-source.ensures;
+      ranks = λ m h. c.settle_order.ensures.ranks m h ∙ ap (λ (j : Interrupt). cond (eqb m n && not (has n (waiting_list s.waiting))) j.priority (waits_at s.waiting m)) c.get-source.ensures;
       same = λ h. kept_priority c.args.change (at_of s.table n) (s.listed n h);
       counted = omega (arith, c.recount-self.ensures, was, is);
     })

@@ -10,13 +10,13 @@ use Rattle.plain.specs.Meaning.{book_of}
 use Rattle.plain.proofs.Turns.{Known, nobody, not_admitted, admitted}
 use Rattle.plain.proofs.plain_guest.PlainGuest.first_in_turn.Goals as goal
 
-pub returns-in-err-most-urgent : goal.returns-in-err-most-urgent
-returns-in-err-most-urgent c =
+pub returns-in_err-most_urgent : goal.returns-in_err-most_urgent
+returns-in_err-most_urgent c =
     let s = c.args.self.now in
     let f = members c.fronts.result in
     let k : Known (book_of s) (waits_at s.waiting) f = record { shown = c.fronts.ensures.shown; within = c.fronts.ensures.within; wait = s.listed; own = s.ranked } in
-    rw c.from-residual.ensures (sym (⊎_elim
-    (λ (l : lowest 32 f < 32). not_admitted (book_of s) (waits_at s.waiting) f k (first_none (cpu_of s.cpu) f (sym c.in-err-most-urgent.ensures) l))
+    rw c.from_residual.ensures (sym (⊎_elim
+    (λ (l : lowest 32 f < 32). not_admitted (book_of s) (waits_at s.waiting) f k (first_none (cpu_of s.cpu) f (sym c.in_err-most_urgent.ensures) l))
     (λ (l : 32 ≤ lowest 32 f). nobody (book_of s) (waits_at s.waiting) f k l) (cases_lt (lowest 32 f) 32)))
 
 pub returns : goal.returns
@@ -24,7 +24,7 @@ returns c =
     let s = c.args.self.now in
     let f = members c.fronts.result in
     let k : Known (book_of s) (waits_at s.waiting) f = record { shown = c.fronts.ensures.shown; within = c.fronts.ensures.within; wait = s.listed; own = s.ranked } in
-    let e = first_some (cpu_of s.cpu) f c.in-ok-most-urgent.most-urgent.level (sym c.in-ok-most-urgent.ensures) in
+    let e = first_some (cpu_of s.cpu) f c.in_ok-most_urgent.most_urgent.level (sym c.in_ok-most_urgent.ensures) in
     c.front.ensures
     ∙ ap (λ (q : ℕ). first (of_priority (waits_at s.waiting) q (waiting_list s.waiting))) (sym e.0)
     ∙ admitted (book_of s) (waits_at s.waiting) f k (omega (arith, e.0, e.1)) (ap (admits (cpu_of s.cpu)) e.0 ∙ e.2)

@@ -7,8 +7,8 @@ use Rattle.interrupt.specs.Counts.{count}
 use Rattle.interrupt.proofs.Counting.{count_empty}
 use Rattle.plain.proofs.plain_guest.PlainGuest.new.Goals as goal
 
-pub invariant-of-result : goal.invariant-of-result
-invariant-of-result c =
+pub invariant_of-result : goal.invariant_of-result
+invariant_of-result c =
     let none : (n : ℕ) → has n (waiting_list c.new-3.result) ≡ false = λ n. ap (has n) c.new-3.ensures in (
       (λ n h. absurd (false≢true (sym (none n) ∙ h))),
       (

@@ -8,7 +8,7 @@ returns-then-event-before c =
     let file = c.args.self.now.file.now in
     let events = c.args.self.now.events in
     record {
-      fault = event_early file events c.args.k _ _ _ _ c.requires.since c.place-place.ensures c.event_at.ensures c.in-ok-event.ensures.ok-part c.if-event-before.true;
+      fault = event_early file events c.args.k _ _ _ _ c.requires.since c.place-place.ensures c.event_at.ensures c.in_ok-event.ensures.ok_part c.if-event-before.true;
       time = tt;
     }
 
@@ -17,6 +17,6 @@ returns c =
     let file = c.args.self.now.file.now in
     let events = c.args.self.now.events in
     record {
-      fault = event_in_time file events c.args.k _ _ _ c.requires.since c.event_at.ensures c.in-ok-event.ensures.ok-part c.if-event-before.false;
-      time = event_time (record_at file (place events c.args.k)) _ _ c.event_at.ensures c.in-ok-event.ensures.ok-part;
+      fault = event_in_time file events c.args.k _ _ _ c.requires.since c.event_at.ensures c.in_ok-event.ensures.ok_part c.if-event-before.false;
+      time = event_time (record_at file (place events c.args.k)) _ _ c.event_at.ensures c.in_ok-event.ensures.ok_part;
     }

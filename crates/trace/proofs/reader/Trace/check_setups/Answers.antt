@@ -6,8 +6,8 @@ use Rattle.trace.proofs.reader.Trace.check_setups.Goals as goal
 pub loop-k-init : goal.loop-k-init
 loop-k-init c = first_none _
 
-pub returns-in-err-ok-or : goal.returns-in-err-ok-or
-returns-in-err-ok-or c = first_exit of_record c.loop-k.k _ _ c.in-err-ok-or.field-0.0 _ c.loop-k-test.true c.loop-k.invariant (search rules) c.from-residual.ensures.1
+pub returns-in_err-ok_or : goal.returns-in_err-ok_or
+returns-in_err-ok_or c = first_exit of_record c.loop-k.k _ _ c.in_err-ok_or.field-0.0 _ c.loop-k-test.true c.loop-k.invariant (search rules) c.from_residual.ensures.1
 
 pub loop-k-preserved : goal.loop-k-preserved
 loop-k-preserved c = first_more _ _ c.loop-k.invariant (search rules)
