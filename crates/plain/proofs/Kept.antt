@@ -45,7 +45,7 @@ left_ranks xs ys rank new n p e r m h = go (eqb m n) refl (has_without m n xs)
 
 -- the ghost fields of the guest
 abbrev pub Fields : (ℕ → Interrupt) → List ℕ → (ℕ → ℕ) → ℕ → Type 0
-Fields at xs rank active = AllWait at xs × (AtOwnPriority at xs rank × ((active ≡ count 1020 (λ m. (at m).active)) × Unit {0}))
+Fields at xs rank active = AllWait at xs × AtOwnPriority at xs rank × (active ≡ count 1020 (λ m. (at m).active))
 
 pub record Step (at new_at : ℕ → Interrupt) (xs ys : List ℕ) (rank new : ℕ → ℕ) (n : ℕ) (i : Interrupt) (active now_active : ℕ) : Type 0 where
   -- interrupt n became i, and the waiting order followed
@@ -67,16 +67,11 @@ step at new_at xs ys rank new n i active now_active s w p c =
     let list : ys ≡ settle n (waits i) xs = s.settled ∙ ap (λ (j : Interrupt). settle n (waits j) xs) at_n in
     let fields : Fields (put n i at) ys new now_active = (
       subst (AllWait (put n i at)) (sym list) (all_wait at xs n i w),
-      (
-        at_own_priority at xs ys rank new n i p s.same list
-            (λ m h. s.ranks m h ∙ ap (λ (j : Interrupt). cond (eqb m n && not (has n xs)) j.priority (rank m)) at_n),
-        (
-          let k = count_put 1020 n i.active (λ m. (at m).active) s.named in
-              let q = ap (count 1020) (active_put n i at) in
-              omega (arith, s.counted),
-          tt,
-        ),
-      ),
+      at_own_priority at xs ys rank new n i p s.same list
+          (λ m h. s.ranks m h ∙ ap (λ (j : Interrupt). cond (eqb m n && not (has n xs)) j.priority (rank m)) at_n),
+      let k = count_put 1020 n i.active (λ m. (at m).active) s.named in
+          let q = ap (count 1020) (active_put n i at) in
+          omega (arith, s.counted),
     ) in
     subst (λ (f : ℕ → Interrupt). Fields f ys new now_active) (sym s.became) fields
   where

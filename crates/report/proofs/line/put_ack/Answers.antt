@@ -6,13 +6,13 @@ use Rattle.report.specs.Lines.{onto, number_line, ack_line, newline}
 use Rattle.report.proofs.Area.{number_line_bound, number_bound}
 use Rattle.report.proofs.line.put_ack.Goals as goal
 
-pub put-numbers-requires : goal.put-numbers-requires
-put-numbers-requires c =
+pub put_numbers-requires : goal.put_numbers-requires
+put_numbers-requires c =
     let s : c.number.result < 1020 = omega (arith, c.number.ensures, c.in-Some.id.named) in
     omega (arith, number_line_bound 10 4 c.args.time (codes " ack ") c.number.result (omega arith) (omega arith) (omega arith) (omega arith) (omega arith) (omega arith))
 
-pub put-number-requires : goal.put-number-requires
-put-number-requires c = omega (arith, number_bound 10 c.args.time (codes " ack none" ++ newline) (omega arith) (omega arith) (omega arith))
+pub put_number-requires : goal.put_number-requires
+put_number-requires c = omega (arith, number_bound 10 c.args.time (codes " ack none" ++ newline) (omega arith) (omega arith) (omega arith))
 
 pub returns-in-Some : goal.returns-in-Some
 returns-in-Some c =
@@ -21,9 +21,9 @@ returns-in-Some c =
     let same : number_line c.args.time (codes " ack ") c.number.result ≡ ack_line c.args.time (option_map id_of c.args.taken) =
     ap (number_line c.args.time (codes " ack ")) c.number.ensures ∙ sym (ap (λ (o : Option InterruptId). ack_line c.args.time (option_map id_of o)) c.in-Some.is) in
     record {
-      value = c.put-numbers.ensures.value ∙ ap length same;
-      after = c.put-numbers.ensures.after ∙ ap (λ (t : List ℕ). onto t c.args.area.now) same;
-      bound = omega (arith, c.put-numbers.ensures.value);
+      value = c.put_numbers.ensures.value ∙ ap length same;
+      after = c.put_numbers.ensures.after ∙ ap (λ (t : List ℕ). onto t c.args.area.now) same;
+      bound = omega (arith, c.put_numbers.ensures.value);
     }
 
 pub returns-in-None : goal.returns-in-None
@@ -31,7 +31,7 @@ returns-in-None c =
     let b = number_bound 10 c.args.time (codes " ack none" ++ newline) (omega arith) (omega arith) (omega arith) in
     let same = sym (ap (λ (o : Option InterruptId). ack_line c.args.time (option_map id_of o)) c.in-None.is) in
     record {
-      value = c.put-number.ensures.value ∙ ap length same;
-      after = c.put-number.ensures.after ∙ ap (λ (t : List ℕ). onto t c.args.area.now) same;
-      bound = omega (arith, c.put-number.ensures.value);
+      value = c.put_number.ensures.value ∙ ap length same;
+      after = c.put_number.ensures.after ∙ ap (λ (t : List ℕ). onto t c.args.area.now) same;
+      bound = omega (arith, c.put_number.ensures.value);
     }

@@ -3,8 +3,8 @@ use Rattle.report.specs.Lines.{onto, number_line}
 use Rattle.report.proofs.Area.{number_line_bound, refusal_small}
 use Rattle.report.proofs.line.put_no.Goals as goal
 
-pub put-numbers-requires : goal.put-numbers-requires
-put-numbers-requires c =
+pub put_numbers-requires : goal.put_numbers-requires
+put_numbers-requires c =
     let s = refusal_small c.args.refusal in
     omega (arith, number_line_bound 10 2 c.args.time (codes " no ") c.number.result (omega arith) (omega arith) (omega arith) (omega arith) (omega arith) (omega arith))
 
@@ -13,7 +13,7 @@ returns c =
     let s = refusal_small c.args.refusal in
     let b = number_line_bound 10 2 c.args.time (codes " no ") c.number.result (omega arith) (omega arith) (omega arith) (omega arith) (omega arith) (omega arith) in
     record {
-      value = c.put-numbers.ensures.value ∙ ap (λ (n : ℕ). length (number_line c.args.time (codes " no ") n)) c.number.ensures;
-      after = c.put-numbers.ensures.after ∙ ap (λ (n : ℕ). onto (number_line c.args.time (codes " no ") n) c.args.area.now) c.number.ensures;
-      bound = omega (arith, c.put-numbers.ensures.value);
+      value = c.put_numbers.ensures.value ∙ ap (λ (n : ℕ). length (number_line c.args.time (codes " no ") n)) c.number.ensures;
+      after = c.put_numbers.ensures.after ∙ ap (λ (n : ℕ). onto (number_line c.args.time (codes " no ") n) c.args.area.now) c.number.ensures;
+      bound = omega (arith, c.put_numbers.ensures.value);
     }

@@ -4,8 +4,8 @@ use Rattle.guest.proofs.Outcomes.{declined}
 use Rattle.report.specs.Playing.{configuring}
 use Rattle.report.proofs.play.set_up.Goals as goal
 
-pub returns-in-err-configure : goal.returns-in-err-configure
-returns-in-err-configure g c =
-    let p = err_from_is_err_and c.from-residual.result c.from-residual.ensures.1 in
-    let d = declined (configuring c.args.setup) _ _ _ c.in-err-configure.ensures.does in
+pub returns-in_err-configure : goal.returns-in_err-configure
+returns-in_err-configure g c =
+    let p = err_from_is_err_and c.from_residual.result c.from_residual.ensures.1 in
+    let d = declined (configuring c.args.setup) _ _ _ c.in_err-configure.ensures.does in
     rw (p.1, p.2) (record { kept = c.configure.ensures.kept; refusal = d.0; does = d.1 })

@@ -7,16 +7,16 @@ use Rattle.report.proofs.text.+put_decimal.Goals as goal
 pub bounds-area-0 : goal.bounds-area-0
 bounds-area-0 t c = omega (arith, length_decimal_digit c.args.n (omega arith))
 
-pub put-decimal-k-requires : goal.put-decimal-k-requires
-put-decimal-k-requires t c =
+pub put_decimal-k-requires : goal.put_decimal-k-requires
+put_decimal-k-requires t c =
     let e = length_decimal_step c.args.n c.if-n-lt10.false (omega arith) in
     (search rules, omega arith)
 
 pub bounds-area-k : goal.bounds-area-k
 bounds-area-k t c = omega (arith, length_decimal_step c.args.n c.if-n-lt10.false (omega arith))
 
-pub overflow-add-result : goal.overflow-add-result
-overflow-add-result t c = omega (arith, length_decimal_step c.args.n c.if-n-lt10.false (omega arith))
+pub overflow_add-result : goal.overflow_add-result
+overflow_add-result t c = omega (arith, length_decimal_step c.args.n c.if-n-lt10.false (omega arith))
 
 pub returns-then-n-lt10 : goal.returns-then-n-lt10
 returns-then-n-lt10 t c =
@@ -34,7 +34,7 @@ returns-else-n-lt10 t c =
     record {
       value = omega arith;
       after =
-          ap (λ (ys : List ℕ). set ys c.put-decimal-k.result (48 + c.args.n % 10)) c.put-decimal-k.ensures.after
-          ∙ push_onto (decimal (c.args.n / 10)) c.args.area.now (48 + c.args.n % 10) c.put-decimal-k.result c.put-decimal-k.ensures.value (omega arith)
+          ap (λ (ys : List ℕ). set ys c.put_decimal-k.result (48 + c.args.n % 10)) c.put_decimal-k.ensures.after
+          ∙ push_onto (decimal (c.args.n / 10)) c.args.area.now (48 + c.args.n % 10) c.put_decimal-k.result c.put_decimal-k.ensures.value (omega arith)
           ∙ ap (λ (a : List ℕ). onto a c.args.area.now) (sym e);
     }

@@ -6,12 +6,12 @@ use Rattle.mask_device.specs.Meaning.{Above, mask_device}
 use Rattle.mask_device.proofs.Steps.{levels_in, chosen_in}
 use Rattle.mask_device.proofs.device.MaskDevice.first_pending.Goals as goal
 
-pub returns-in-err-priority : goal.returns-in-err-priority
-returns-in-err-priority c =
+pub returns-in_err-priority : goal.returns-in_err-priority
+returns-in_err-priority c =
     let s = c.args.self.now in
     let chosen_so : Option ℕ → Type 0 = λ o. Chosen Above (mask_device s) o in
-    subst chosen_so (sym c.from-residual.ensures) (chosen_none Above (mask_device s) (members c.levels.result) (levels_in s (members c.levels.result) c.levels.ensures) (sym c.in-err-priority.ensures))
+    subst chosen_so (sym c.from_residual.ensures) (chosen_none Above (mask_device s) (members c.levels.result) (levels_in s (members c.levels.result) c.levels.ensures) (sym c.in_err-priority.ensures))
 
 pub returns : goal.returns
 returns c =
-    chosen_in c.args.self.now (members c.levels.result) c.in-ok-priority.priority.level c.highest.result c.levels.ensures (sym c.in-ok-priority.ensures) c.highest.ensures
+    chosen_in c.args.self.now (members c.levels.result) c.in_ok-priority.priority.level c.highest.result c.levels.ensures (sym c.in_ok-priority.ensures) c.highest.ensures

@@ -6,8 +6,8 @@ use Rattle.register_file.proofs.Kept.{apart_new}
 use Rattle.mask_device.proofs.Steps.{steps_new}
 use Rattle.mask_device.proofs.device.MaskDevice.new.Goals as goal
 
-pub invariant-of-result : goal.invariant-of-result
-invariant-of-result c =
+pub invariant_of-result : goal.invariant_of-result
+invariant_of-result c =
     let e = at_new entry_of c.args.count 64 c.nothing.result (omega arith) c.nothing.ensures in
     (refl, (omega arith, (omega arith, (apart_new _ e, (steps_new _ _ e c.new.ensures, tt)))))
 

@@ -10,8 +10,8 @@ use Rattle.mask_device.specs.Pending.{pending_in}
 use Rattle.mask_device.proofs.Steps.{Steps, steps_put}
 use Rattle.mask_device.proofs.device.MaskDevice.replace.Goals as goal
 
-pub invariant-of-self : goal.invariant-of-self
-invariant-of-self c =
+pub invariant_of-self : goal.invariant_of-self
+invariant_of-self c =
     let s = c.args.self.now in
     let e = sym (at_set entry_of s.entries s.count c.args.k c.args.entry c.requires.within (omega arith)) in
     let sets = pending_in c.enter.new.self in
@@ -39,5 +39,5 @@ leave-requires c =
     let s = c.args.self.now in
     record {
       within = omega arith;
-      was = λ p. s.step p c.args.k (omega arith) ∙ ap (λ (e : Entry). pending_entry e p) (sym c.entry-of-old.ensures);
+      was = λ p. s.step p c.args.k (omega arith) ∙ ap (λ (e : Entry). pending_entry e p) (sym c.entry_of-old.ensures);
     }

@@ -15,24 +15,24 @@ some_there : (t s : Bool) → t ≡ false → t ≡ not s → s ≡ true
 some_there t true e f = grind (arith, nat_tests)
 some_there t false e f = grind (arith, nat_tests)
 
-pub invariant-of-self : goal.invariant-of-self
-invariant-of-self c = (
+pub invariant_of-self : goal.invariant_of-self
+invariant_of-self c = (
   summed_set c.args.self.now.sets (members c.args.self.now.levels) (members c.remove.new.self) c.args.priority.level c.level-p.result c.without-left.result c.level-p.ensures.value (omega arith) c.args.self.now.summed
-      (c.remove.ensures ∙ ap (λ (t : Bool). put c.args.priority.level t (members c.args.self.now.levels)) (sym (empty_left _ _ c.if-is-empty.true c.is-empty.ensures))),
+      (c.remove.ensures ∙ ap (λ (t : Bool). put c.args.priority.level t (members c.args.self.now.levels)) (sym (empty_left _ _ c.if-is_empty.true c.is_empty.ensures))),
   tt,
 )
 
-pub invariant-of-self-else-is-empty : goal.invariant-of-self-else-is-empty
-invariant-of-self-else-is-empty c =
+pub invariant_of-self-else-is_empty : goal.invariant_of-self-else-is_empty
+invariant_of-self-else-is_empty c =
     let s = c.args.self.now in
     let p = c.args.priority.level in
-    let after = some_there _ _ c.if-is-empty.false c.is-empty.ensures in
+    let after = some_there _ _ c.if-is_empty.false c.is_empty.ensures in
     let before : some 64 (in_set s.sets c.level-p.result) ≡ true = some_left c.args.register _ (sym (ap (some 64) c.without-left.ensures) ∙ after) in
     let was : members s.levels p ≡ true = s.summed p c.args.priority.known ∙ ap (λ (q : ℕ). some 64 (in_set s.sets q)) (sym c.level-p.ensures.value) ∙ before in
     (summed_set s.sets (members s.levels) (members s.levels) p c.level-p.result c.without-left.result c.level-p.ensures.value (omega arith) s.summed (put_same p _ (members s.levels) (was ∙ sym after)), tt)
 
-pub returns-then-is-empty : goal.returns-then-is-empty
-returns-then-is-empty c = replaced c.args.self.now.sets c.args.priority.level c.level-p.result c.args.register false c.without-left.result c.level-p.ensures.value (omega arith) c.without-left.ensures
+pub returns-then-is_empty : goal.returns-then-is_empty
+returns-then-is_empty c = replaced c.args.self.now.sets c.args.priority.level c.level-p.result c.args.register false c.without-left.result c.level-p.ensures.value (omega arith) c.without-left.ensures
 
-pub returns-else-is-empty : goal.returns-else-is-empty
-returns-else-is-empty c = replaced c.args.self.now.sets c.args.priority.level c.level-p.result c.args.register false c.without-left.result c.level-p.ensures.value (omega arith) c.without-left.ensures
+pub returns-else-is_empty : goal.returns-else-is_empty
+returns-else-is_empty c = replaced c.args.self.now.sets c.args.priority.level c.level-p.result c.args.register false c.without-left.result c.level-p.ensures.value (omega arith) c.without-left.ensures

@@ -14,4 +14,4 @@ negated true y h = grind (arith, nat_tests)
 negated false y h = grind (arith, nat_tests)
 
 pub returns : goal.returns
-returns c = negated _ _ (sym (any _ c.highest.result c.highest.ensures) ∙ c.is-none.ensures)
+returns c = negated _ _ (sym (any _ c.highest.result c.highest.ensures) ∙ c.is_none.ensures)

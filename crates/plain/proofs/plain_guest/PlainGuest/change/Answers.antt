@@ -29,7 +29,7 @@ invariant_of-self c =
     let new : at_of c.change-flipped.new.self n ≡ i = ap (λ (f : ℕ → Interrupt). f n) c.change-flipped.ensures.after ∙ own n i (at_of s.table) in
     let was = ap one_if (c.is_active-was_active.ensures ∙ ap (λ (j : Interrupt). j.active) c.get.ensures) in
     let is = ap one_if (c.is_active.ensures ∙ ap (λ (j : Interrupt). j.active) (c.get-source.ensures ∙ new)) in
-    step (at_of s.table) (at_of c.change-flipped.new.self) (waiting_list s.waiting) (waiting_list c.settle_order.new.waiting) (waits_at s.waiting) (waits_at c.settle_order.new.waiting) n i s.active c.recount-self.result
+    let f = step (at_of s.table) (at_of c.change-flipped.new.self) (waiting_list s.waiting) (waiting_list c.settle_order.new.waiting) (waits_at s.waiting) (waits_at c.settle_order.new.waiting) n i s.active c.recount-self.result
     (record {
       named = id_below c.args.id;
       became = c.change-flipped.ensures.after;
@@ -38,4 +38,5 @@ invariant_of-self c =
       same = λ h. kept_priority c.args.change (at_of s.table n) (s.listed n h);
       counted = omega (arith, c.recount-self.ensures, was, is);
     })
-    s.listed s.ranked s.counted
+    s.listed s.ranked s.counted in
+    record { listed = f.0; ranked = f.1; counted = f.2 }

@@ -9,13 +9,9 @@ use Rattle.plain.proofs.plain_guest.PlainGuest.new.Goals as goal
 
 pub invariant_of-result : goal.invariant_of-result
 invariant_of-result c =
-    let none : (n : ℕ) → has n (waiting_list c.new-3.result) ≡ false = λ n. ap (has n) c.new-3.ensures in (
-      (λ n h. absurd (false≢true (sym (none n) ∙ h))),
-      (
-        (λ n h. absurd (false≢true (sym (none n) ∙ h))),
-        (
-          sym (ap (λ (at : ℕ → Interrupt). count 1020 (λ n. (at n).active)) c.new.ensures ∙ count_empty 1020),
-          tt,
-        ),
-      ),
-    )
+    let none : (n : ℕ) → has n (waiting_list c.new-3.result) ≡ false = λ n. ap (has n) c.new-3.ensures in
+    record {
+      listed = λ n h. absurd (false≢true (sym (none n) ∙ h));
+      ranked = λ n h. absurd (false≢true (sym (none n) ∙ h));
+      counted = sym (ap (λ (at : ℕ → Interrupt). count 1020 (λ n. (at n).active)) c.new.ensures ∙ count_empty 1020);
+    }

@@ -6,4 +6,4 @@ use Rattle.register_device.proofs.device.RegisterDevice.empty_low.Goals as goal
 pub returns : goal.returns
 returns c =
     let v : View c.args.self.now c.list-list.result.now = record { value = c.list-list.ensures.value; len = c.list-list.ensures.len } in
-    c.empty-word.ensures ∙ status_low c.args.self.now c.list-list.result.now c.min.result v c.min.ensures
+    c.empty_word.ensures ∙ status_low c.args.self.now c.list-list.result.now c.min.result v c.min.ensures

@@ -7,20 +7,20 @@ use Rattle.register_device.specs.Meaning.{Below, register_device}
 use Rattle.register_device.proofs.Choosing.{View, levels_in, chosen_in}
 use Rattle.register_device.proofs.device.RegisterDevice.first_pending.Goals as goal
 
-pub returns-in-err-priority : goal.returns-in-err-priority
-returns-in-err-priority c =
+pub returns-in_err-priority : goal.returns-in_err-priority
+returns-in_err-priority c =
     let d = c.args.self.now in
-    let levels = members c.pending-levels.result in
+    let levels = members c.pending_levels.result in
     let chosen_so : Option ℕ → Type 0 = λ o. Chosen Below (register_device d) o in
     let v : View d c.list.result.now = record { value = c.list.ensures.value; len = c.list.ensures.len } in
-    subst chosen_so (sym c.from-residual.ensures)
-    (chosen_none Below (register_device d) levels (levels_in d c.list.result.now levels v c.pending-levels.ensures) (ap (λ (u : Cpu). first_admitted u levels) (sym c.settings.ensures.cpu) ∙ sym c.in-err-priority.ensures))
+    subst chosen_so (sym c.from_residual.ensures)
+    (chosen_none Below (register_device d) levels (levels_in d c.list.result.now levels v c.pending_levels.ensures) (ap (λ (u : Cpu). first_admitted u levels) (sym c.settings.ensures.cpu) ∙ sym c.in_err-priority.ensures))
 
 pub returns : goal.returns
 returns c =
     let d = c.args.self.now in
-    let levels = members c.pending-levels.result in
+    let levels = members c.pending_levels.result in
     let v : View d c.list.result.now = record { value = c.list.ensures.value; len = c.list.ensures.len } in
     let u : View d c.list-2.result.now = record { value = c.list-2.ensures.value; len = c.list-2.ensures.len } in
-    chosen_in d c.list-2.result.now levels c.in-ok-priority.priority.level c.first-pending.result u (levels_in d c.list.result.now levels v c.pending-levels.ensures)
-    (ap (λ (w : Cpu). first_admitted w levels) (sym c.settings.ensures.cpu) ∙ sym c.in-ok-priority.ensures) c.first-pending.ensures
+    chosen_in d c.list-2.result.now levels c.in_ok-priority.priority.level c.first_pending.result u (levels_in d c.list.result.now levels v c.pending_levels.ensures)
+    (ap (λ (w : Cpu). first_admitted w levels) (sym c.settings.ensures.cpu) ∙ sym c.in_ok-priority.ensures) c.first_pending.ensures

@@ -7,8 +7,8 @@ use Rattle.register_device.specs.Words.{held_in}
 use Rattle.register_device.proofs.Settled.{settled}
 use Rattle.register_device.proofs.device.RegisterDevice.new.Goals as goal
 
-pub invariant-of-result : goal.invariant-of-result
-invariant-of-result c =
+pub invariant_of-result : goal.invariant_of-result
+invariant_of-result c =
     (refl, (omega arith, (omega arith, (apart_new _ (at_new held_in c.args.count 64 c.of.result (omega arith) (c.of.ensures.back ∙ c.nothing.ensures)), tt))))
 
 pub returns : goal.returns

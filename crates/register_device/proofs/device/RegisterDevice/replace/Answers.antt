@@ -10,8 +10,8 @@ use Rattle.register_device.specs.Words.{held_in}
 use Rattle.register_device.specs.Ranges.{room}
 use Rattle.register_device.proofs.device.RegisterDevice.replace.Goals as goal
 
-pub invariant-of-self : goal.invariant-of-self
-invariant-of-self c =
+pub invariant_of-self : goal.invariant_of-self
+invariant_of-self c =
     let s = c.args.self.now in
     let at = (register_device s).at in
     let e = at_set held_in s.list s.count c.args.k c.of.result c.requires.within (room s) ∙ ap (λ (d : Entry). put c.args.k d at) c.of.ensures.back in

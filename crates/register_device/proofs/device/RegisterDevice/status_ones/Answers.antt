@@ -6,8 +6,8 @@ use Rattle.register_device.specs.Meaning.{register_device}
 use Rattle.register_device.proofs.Empties.{free_count}
 use Rattle.register_device.proofs.device.RegisterDevice.status_ones.Goals as goal
 
-pub overflow-add-result : goal.overflow-add-result
-overflow-add-result c = omega (arith, ones-le 32 c.empty-low.result (omega arith), ones-le 32 c.empty-high.result (omega arith))
+pub overflow_add-result : goal.overflow_add-result
+overflow_add-result c = omega (arith, ones-le 32 c.empty_low.result (omega arith), ones-le 32 c.empty_high.result (omega arith))
 
 pub returns : goal.returns
-returns c = (λ i. ones (c.empty-low.ensures i) + ones (c.empty-high.ensures i)) ∙ free_count (free (register_device c.args.self.now))
+returns c = (λ i. ones (c.empty_low.ensures i) + ones (c.empty_high.ensures i)) ∙ free_count (free (register_device c.args.self.now))
