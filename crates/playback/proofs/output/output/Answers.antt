@@ -12,5 +12,5 @@ returns-in-Ok c =
 
 pub returns-in-Err : goal.returns-in-Err
 returns-in-Err c =
-    IfOk-weaker c.failure-text.result (λ v. Tells c.in-Err.failure (vec_items v)) (λ v. vec_items v ≡ output_of c.args.file.now)
-    (λ v h. told c.args.file.now (vec_items v) c.in-Err.failure c.in-Err.ensures h) c.failure-text.ensures
+    IfOk-weaker c.failure_text.result (λ v. Tells c.in-Err.failure (vec_items v)) (λ v. vec_items v ≡ output_of c.args.file.now)
+    (λ v h. told c.args.file.now (vec_items v) c.in-Err.failure c.in-Err.ensures h) c.failure_text.ensures

@@ -9,7 +9,7 @@ use Rattle.mask_device.proofs.device.MaskDevice.new.Goals as goal
 pub invariant_of-result : goal.invariant_of-result
 invariant_of-result c =
     let e = at_new entry_of c.args.count 64 c.nothing.result (omega arith) c.nothing.ensures in
-    (refl, (omega arith, (omega arith, (apart_new _ e, (steps_new _ _ e c.new.ensures, tt)))))
+    record { sized = refl; some = omega arith; most = omega arith; apart = apart_new _ e; step = steps_new _ _ e c.new.ensures }
 
 pub returns : goal.returns
 returns c =

@@ -15,19 +15,14 @@ invariant_of-self c =
     let s = c.args.self.now in
     let e = sym (at_set entry_of s.entries s.count c.args.k c.args.entry c.requires.within (omega arith)) in
     let sets = pending_in c.enter.new.self in
-    let stepping : (ℕ → Entry) → Type 0 = λ at. Steps at sets in (
-      rw length-set s.sized,
-      (
-        omega arith,
-        (
-          omega arith,
-          (
-            subst Apart e (apart_put c.args.k (entry_of c.args.entry) (mask_device s).at c.requires.alone s.apart),
-            (subst stepping e (steps_put c.args.k (entry_of c.args.entry) (mask_device s).at _ _ sets s.step c.leave.ensures c.enter.ensures), tt),
-          ),
-        ),
-      ),
-    )
+    let stepping : (ℕ → Entry) → Type 0 = λ at. Steps at sets in
+    record {
+      sized = rw length-set s.sized;
+      some = omega arith;
+      most = omega arith;
+      apart = subst Apart e (apart_put c.args.k (entry_of c.args.entry) (mask_device s).at c.requires.alone s.apart);
+      step = subst stepping e (steps_put c.args.k (entry_of c.args.entry) (mask_device s).at _ _ sets s.step c.leave.ensures c.enter.ensures);
+    }
 
 pub returns : goal.returns
 returns c =

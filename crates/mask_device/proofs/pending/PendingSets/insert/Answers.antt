@@ -6,11 +6,10 @@ use Rattle.mask_device.proofs.Sets.{replaced, summed_set, some_put}
 use Rattle.mask_device.proofs.pending.PendingSets.insert.Goals as goal
 
 pub invariant_of-self : goal.invariant_of-self
-invariant_of-self c = (
-  summed_set c.args.self.now.sets (members c.args.self.now.levels) (members c.insert.new.self) c.args.priority.level c.level-p.result c.with.result c.level-p.ensures.value (omega arith) c.args.self.now.summed
-      (c.insert.ensures ∙ ap (λ (t : Bool). put c.args.priority.level t (members c.args.self.now.levels)) (sym (ap (some 64) c.with.ensures ∙ some_put c.args.register _ c.requires))),
-  tt,
-)
+invariant_of-self c = record {
+  summed = summed_set c.args.self.now.sets (members c.args.self.now.levels) (members c.insert.new.self) c.args.priority.level c.level-p.result c.with.result c.level-p.ensures.value (omega arith) c.args.self.now.summed
+      (c.insert.ensures ∙ ap (λ (t : Bool). put c.args.priority.level t (members c.args.self.now.levels)) (sym (ap (some 64) c.with.ensures ∙ some_put c.args.register _ c.requires)));
+}
 
 pub returns : goal.returns
 returns c = replaced c.args.self.now.sets c.args.priority.level c.level-p.result c.args.register true c.with.result c.level-p.ensures.value (omega arith) c.with.ensures

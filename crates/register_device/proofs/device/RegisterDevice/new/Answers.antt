@@ -9,7 +9,7 @@ use Rattle.register_device.proofs.device.RegisterDevice.new.Goals as goal
 
 pub invariant_of-result : goal.invariant_of-result
 invariant_of-result c =
-    (refl, (omega arith, (omega arith, (apart_new _ (at_new held_in c.args.count 64 c.of.result (omega arith) (c.of.ensures.back ∙ c.nothing.ensures)), tt))))
+    record { sized = refl; some = omega arith; most = omega arith; apart = apart_new _ (at_new held_in c.args.count 64 c.of.result (omega arith) (c.of.ensures.back ∙ c.nothing.ensures)) }
 
 pub returns : goal.returns
 returns c =

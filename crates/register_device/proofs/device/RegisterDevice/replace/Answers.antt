@@ -15,7 +15,7 @@ invariant_of-self c =
     let s = c.args.self.now in
     let at = (register_device s).at in
     let e = at_set held_in s.list s.count c.args.k c.of.result c.requires.within (room s) ∙ ap (λ (d : Entry). put c.args.k d at) c.of.ensures.back in
-    (rw length-set s.sized, (s.some, (s.most, (subst Apart (sym e) (apart_put c.args.k (entry_of c.args.entry) at c.requires.alone s.apart), tt))))
+    record { sized = rw length-set s.sized; some = s.some; most = s.most; apart = subst Apart (sym e) (apart_put c.args.k (entry_of c.args.entry) at c.requires.alone s.apart) }
 
 pub returns : goal.returns
 returns c =
