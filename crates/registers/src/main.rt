@@ -6,6 +6,7 @@ use register_commands::respond::respond;
 use register_device::device::RegisterDevice;
 use std::io;
 use std::io::{BufRead, BufReader, Write};
+use std::process::ExitCode;
 
 // How many list registers the device has before the first `new`.
 const REGISTERS: u32 = 4;
@@ -25,15 +26,15 @@ fn serve(rt: &HostRuntime, mut device: RegisterDevice) -> io::Result<()> {
     Ok(())
 }
 
-fn main(rt: HostRuntime) -> io::Result<()> {
+fn main(rt: HostRuntime) -> ExitCode {
     let Ok(device) = RegisterDevice::new(REGISTERS) else {
         unreachable()
     };
     match serve(&rt, device) {
-        Ok(()) => Ok(()),
+        Ok(()) => ExitCode::SUCCESS,
         Err(error) => {
             let _ = eprintln!(rt; "registers: {error}");
-            Err(error)
+            ExitCode::FAILURE
         }
     }
 }

@@ -4,6 +4,7 @@
 use playback::output::output;
 use std::io;
 use std::io::{Read, Write};
+use std::process::ExitCode;
 
 // One byte more than the longest trace has, so that a longer input is noticed.
 const MOST: u64 = 32187;
@@ -15,12 +16,12 @@ fn run(rt: &HostRuntime) -> io::Result<()> {
     rt.stdout().write_all(text.as_slice())
 }
 
-fn main(rt: HostRuntime) -> io::Result<()> {
+fn main(rt: HostRuntime) -> ExitCode {
     match run(&rt) {
-        Ok(()) => Ok(()),
+        Ok(()) => ExitCode::SUCCESS,
         Err(error) => {
             let _ = eprintln!(rt; "run: {error}");
-            Err(error)
+            ExitCode::FAILURE
         }
     }
 }

@@ -1,13 +1,11 @@
 // Files and what is written for them.
 use playback::output::output;
-use std::alloc::Global;
-use std::process::Abort;
+use std::alloc::{AllocError, Global};
 use std::test::Fail;
 
-fn writes(rt: &impl Abort, heap: Global, file: &[u8], expected: &[u8]) -> Result<(), Fail> {
+fn writes(heap: Global, file: &[u8], expected: &[u8]) -> Result<bool, AllocError> {
     let text = output(heap, file)?;
-    assert!(rt; text.as_slice() == expected);
-    Ok(())
+    Ok(text.as_slice() == expected)
 }
 
 // Files, and what is written for each.
@@ -285,7 +283,7 @@ const FILES: [(&[u8], &[u8]); 53] = [
 #[test]
 fn writes_each(rt: HostRuntime) -> Result<(), Fail> {
     for (file, expected) in FILES {
-        writes(&rt, rt.alloc(), file, expected)?;
+        assert!(rt; writes(rt.alloc(), file, expected)?);
     }
     Ok(())
 }
@@ -294,5 +292,6 @@ fn writes_each(rt: HostRuntime) -> Result<(), Fail> {
 #[test]
 fn too_long(rt: HostRuntime) -> Result<(), Fail> {
     let file = vec![in rt.alloc(); 1u8; 32187]?;
-    writes(&rt, rt.alloc(), file.as_slice(), b"fault 1 15 0\n")
+    assert!(rt; writes(rt.alloc(), file.as_slice(), b"fault 1 15 0\n")?);
+    Ok(())
 }
