@@ -3,7 +3,6 @@ ghost use Rattle.std.specs.Option.{option_map};
 ghost use Rattle.interrupt.specs.Meaning.{id_of};
 ghost use Rattle.list_register.specs.Calls.{Acknowledges};
 ghost use Rattle.register_file.specs.Picking.{Prefers};
-ghost use Rattle.std.proofs.Common.{rules};
 
 use crate::interface::Device;
 use interrupt::cpu_interface::EoiMode;
@@ -19,7 +18,7 @@ use register_file::steps::{clashes, deactivate_word, end_word, line_is_up, place
 impl<F: RegisterFile> Device for F {
     ghost meaning = { F.RegisterFile.meaning };
 
-    ghost formed = { Prim.search rules };
+    ghost formed = { F.RegisterFile.formed };
 
     fn count(&self) -> u8 {
         self.size()

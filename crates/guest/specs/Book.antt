@@ -1,5 +1,5 @@
 -- What a guest means: its interrupts, whether it runs, its CPU interface and its waiting list.
-use Rattle.std.specs.Prelude.{ℕ, Bool, true, false, cond, ◌&&◌, List, [], ◌∷◌, ◌++◌, Some, None, Option, nat_le}
+use Rattle.std.specs.Prelude.{ℕ, Bool, true, cond, ◌&&◌, List, [], ◌∷◌, ◌++◌, Some, None, Option, nat_le}
 use Rattle.interrupt.specs.Cpu.{Cpu, closed, admits}
 use Rattle.interrupt.specs.Lists.{has, without}
 use Rattle.interrupt.specs.Sets.{put}

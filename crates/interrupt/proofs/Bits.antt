@@ -1,9 +1,9 @@
 -- Words as sets, at any width.
-use Rattle.std.proofs.Common.{◌≡◌, ℕ, zero, suc, ◌+◌, ◌-◌, ◌*◌, ◌/◌, ◌%◌, ◌^◌, ◌<◌, ◌≤◌, min, max, Bool, true, false, cond, eqb, ◌⊎◌, sym, refl, ap, ◌∙◌, inl, inr, ⊎_elim, suc-le-suc, zero-le, le_of_suc-le-suc, not-suc-le-zero, div-one, add-one, one-add, arith, pow_pos, pow_mono, shr-shr}
+use Rattle.std.proofs.Common.{◌≡◌, ℕ, zero, suc, ◌-◌, ◌*◌, ◌/◌, ◌%◌, ◌^◌, ◌<◌, ◌≤◌, min, max, Bool, true, false, cond, eqb, sym, refl, ap, ◌∙◌, ⊎_elim, suc-le-suc, zero-le, le_of_suc-le-suc, not-suc-le-zero, div-one, one-add, arith, pow_mono, shr-shr}
 use native.Mathlib.Nat.{pow-succ', zero-div, div-eq_of_lt}
 use lib.Bits.{bit_and, bit_or, or_shr, and_shr, or_step, and_step}
 use lib.Count.{count_trailing_zeros, under}
-use Rattle.std.proofs.lemmas.Bool.{cases_lt, cases_eq, eqb-true, eqb-false}
+use Rattle.std.proofs.lemmas.Bool.{cases_lt, eqb-true, eqb-false}
 use Rattle.std.proofs.lemmas.Nat.{one_shl, pow_below}
 use Rattle.interrupt.specs.Sets.{bit, member, put, lowest}
 use Rattle.interrupt.proofs.Lowest.{Lowest, lowest_of, lowest_is}

@@ -1,16 +1,16 @@
 -- The word of a set: its bits, its value, and how many of them are set.
-use Rattle.std.proofs.Common.{◌≡◌, ℕ, zero, suc, ◌+◌, ◌-◌, ◌*◌, ◌/◌, ◌%◌, ◌^◌, ◌<◌, ◌≤◌, Bool, true, false, cond, eqb, sym, refl, ap, ◌∙◌, ⊎_elim, le_of_suc-le-suc, not-suc-le-zero, mod-eq_of_lt, one-mul, add-one, one-add, arith, pow_pos}
+use Rattle.std.proofs.Common.{◌≡◌, ℕ, zero, suc, ◌+◌, ◌*◌, ◌/◌, ◌%◌, ◌^◌, ◌<◌, ◌≤◌, Bool, true, false, cond, eqb, sym, refl, ap, ◌∙◌, ⊎_elim, le_of_suc-le-suc, not-suc-le-zero, mod-eq_of_lt, one-mul, add-one, one-add, arith}
 use native.Mathlib.Nat.{pow-succ', div-eq_of_lt-le}
 use lib.Bits.{bit_or, or_shifted_r}
 use lib.Count.{ones, ones_step, count_leading_zeros, leading_top}
 use Rattle.std.proofs.lemmas.Nat.{mod-pow-add, one_shl}
-use Rattle.std.proofs.lemmas.Bool.{cases_lt, eqb-true, eqb-false}
+use Rattle.std.proofs.lemmas.Bool.{cases_lt}
 use Rattle.std.proofs.lemmas.Bool.Decides.{nat_tests}
 use Rattle.interrupt.specs.declared.priority_set.PrioritySet.{PrioritySet}
 use Rattle.interrupt.specs.Counts.{one_if, count}
 use Rattle.interrupt.specs.Meaning.{members}
-use Rattle.interrupt.specs.Sets.{bit, member, put, word_of}
-use Rattle.interrupt.proofs.Bits.{bit_zero, bit_suc, bit_past, with_bit, no_member}
+use Rattle.interrupt.specs.Sets.{bit, member, word_of}
+use Rattle.interrupt.proofs.Bits.{bit_zero, bit_suc, bit_past, with_bit}
 
 -- bit p of a word is one where p is a member
 bit_member : (w p : ℕ) → bit w p ≡ one_if (member w p)

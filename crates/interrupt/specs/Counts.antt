@@ -1,5 +1,5 @@
 -- How many numbers are in a set.
-use Rattle.std.specs.Prelude.{ℕ, zero, suc, ◌+◌, Bool, true, false, cond}
+use Rattle.std.specs.Prelude.{ℕ, zero, suc, ◌+◌, Bool, cond}
 
 abbrev pub one_if : Bool → ℕ
 one_if t = cond t 1 0

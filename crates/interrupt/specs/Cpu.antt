@@ -1,5 +1,5 @@
 -- What a CPU interface means.
-use Rattle.std.specs.Prelude.{ℕ, Bool, true, false, cond, ◌&&◌, Some, None, Option, nat_lt}
+use Rattle.std.specs.Prelude.{ℕ, Bool, false, cond, ◌&&◌, Some, None, Option, nat_lt}
 use Rattle.interrupt.specs.declared.cpu_interface.EoiMode.{EoiMode}
 use Rattle.interrupt.specs.declared.cpu_interface.EoiMode.TheVariants.{Joined, Split}
 use Rattle.interrupt.specs.Preemption.{may_preempt}

@@ -1,5 +1,5 @@
 -- Lists of interrupts, the earliest first.
-use Rattle.std.specs.Prelude.{ℕ, Bool, true, false, cond, ◌||◌, List, [], ◌∷◌, ◌++◌, Some, None, Option, ◌==◌}
+use Rattle.std.specs.Prelude.{ℕ, Bool, true, false, cond, ◌||◌, List, [], ◌∷◌, Some, None, Option, ◌==◌}
 
 -- n is in the list
 abbrev pub has : ℕ → List ℕ → Bool

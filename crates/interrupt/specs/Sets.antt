@@ -1,5 +1,5 @@
 -- Sets of numbers, as functions from a number to whether it is in the set, and as words.
-use Rattle.std.specs.Prelude.{ℕ, zero, suc, ◌+◌, ◌/◌, ◌%◌, ◌^◌, Bool, true, false, cond, ◌||◌, ◌==◌}
+use Rattle.std.specs.Prelude.{ℕ, zero, suc, ◌+◌, ◌/◌, ◌%◌, ◌^◌, Bool, false, cond, ◌||◌, ◌==◌}
 
 -- bit p of a word, 0 or 1
 abbrev pub bit : ℕ → ℕ → ℕ

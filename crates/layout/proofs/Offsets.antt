@@ -1,9 +1,7 @@
 -- The list register at an offset.
-use Rattle.std.proofs.Common.{◌≡◌, ℕ, ◌+◌, ◌*◌, ◌<◌, ◌≤◌, Bool, true, false, cond, eqb, ltb, Some, None, Option, sym, refl, ap, ◌∙◌, arith}
+use Rattle.std.proofs.Common.{◌≡◌, ℕ, ◌<◌, Bool, true, false, eqb, ltb, Some, None, refl, ap, ◌∙◌, arith}
 use Rattle.std.proofs.lemmas.Bool.Decides.{nat_tests}
-use Rattle.interrupt.specs.Sets.{lowest}
 use Rattle.interrupt.proofs.Lowest.{lowest_of, lowest_is}
-use Rattle.layout.specs.declared.register.Register.{Register}
 use Rattle.layout.specs.declared.register.Register.TheVariants.{Lr}
 use Rattle.layout.specs.Offsets.{offset_of, numbered, list_at}
 

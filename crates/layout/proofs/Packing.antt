@@ -6,7 +6,6 @@ use Rattle.std.proofs.lemmas.Nat.{and_mask, one_shl}
 use Rattle.interrupt.specs.declared.cpu_interface.EoiMode.{EoiMode}
 use Rattle.interrupt.specs.declared.cpu_interface.EoiMode.TheVariants.{Joined, Split}
 use Rattle.interrupt.specs.Cpu.{by_mode}
-use Rattle.layout.specs.Fields.{bits}
 use Rattle.layout.specs.Layouts.{control_word, machine_word}
 
 -- a mask of k bits

@@ -1,5 +1,5 @@
 -- The byte offset of each register.
-use Rattle.std.specs.Prelude.{ℕ, ◌+◌, ◌*◌, ◌<◌, Bool, cond, Some, None, Option, ◌==◌, nat_eq, nat_lt}
+use Rattle.std.specs.Prelude.{ℕ, ◌+◌, ◌*◌, ◌<◌, cond, Some, None, Option, ◌==◌, nat_eq, nat_lt}
 use Rattle.interrupt.specs.Sets.{lowest}
 use Rattle.layout.specs.declared.register.Register.{Register}
 use Rattle.layout.specs.declared.register.Register.TheVariants.{Hcr, Vtr, Vmcr, Elrsr0, Elrsr1, Apr, Lr}

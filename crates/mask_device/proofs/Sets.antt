@@ -1,9 +1,9 @@
 -- One set among those of all priorities, and the summary of which are not empty.
-use Rattle.std.proofs.Common.{◌≡◌, ℕ, ◌<◌, ◌≤◌, Bool, true, false, cond, not, ◌&&◌, eqb, List, length, get_or, set, replicate, sym, refl, ap, ◌∙◌, ⊎_elim, arith, get_or-set_other, get_or-set_same}
+use Rattle.std.proofs.Common.{◌≡◌, ℕ, ◌<◌, ◌≤◌, Bool, true, false, cond, ◌&&◌, eqb, List, length, get_or, set, replicate, sym, refl, ap, ◌∙◌, ⊎_elim, arith, get_or-set_other, get_or-set_same}
 use lib.ListN.{get_or-replicate, length-replicate}
 use Rattle.std.proofs.lemmas.List.{get_or_past}
 use Rattle.std.proofs.lemmas.Bool.{eqb-true, eqb-false, cases_lt}
-use Rattle.interrupt.specs.Sets.{put, some, member}
+use Rattle.interrupt.specs.Sets.{put, some}
 use Rattle.interrupt.proofs.Bits.{no_member}
 use Rattle.interrupt.proofs.Lowest.{some_none, some_at, some_not}
 use Rattle.mask_device.specs.declared.register_set.RegisterSet.{RegisterSet}

@@ -1,21 +1,19 @@
 -- The entries and the pending sets stay in step.
-use Rattle.std.proofs.Common.{◌≡◌, ℕ, ◌<◌, ◌≤◌, Bool, true, false, cond, ◌&&◌, eqb, List, length, take, replicate, Some, None, Option, sym, refl, ap, ◌∙◌, ⊎_elim, arith, MatchOption}
-use Rattle.std.proofs.lemmas.Bool.{eqb-true, eqb-false, cases_lt}
+use Rattle.std.proofs.Common.{◌≡◌, ℕ, ◌<◌, ◌≤◌, Bool, true, false, cond, ◌&&◌, eqb, take, Some, None, Option, sym, refl, ap, ◌∙◌, ⊎_elim, arith, MatchOption}
+use Rattle.std.proofs.lemmas.Bool.{eqb-true, cases_lt}
 use Rattle.std.proofs.lemmas.Bool.Decides.{nat_tests}
 use Rattle.interrupt.specs.Cpu.{first_admitted}
 use Rattle.interrupt.specs.Sets.{put, some}
 use Rattle.interrupt.proofs.Ids.{id_below}
-use Rattle.interrupt.proofs.Lowest.{some_none, some_at, some_not}
-use Rattle.list_register.specs.declared.entry.Entry.{Entry as TypedEntry}
+use Rattle.interrupt.proofs.Lowest.{some_none, some_not}
 use Rattle.list_register.specs.Entries.{Entry, nothing, is_pending}
 use Rattle.list_register.specs.Meaning.{Ends}
 use Rattle.list_register.specs.Shown.{entry_of}
-use Rattle.register_file.specs.Registers.{entries_of, pending_entry, pending_at}
+use Rattle.register_file.specs.Registers.{pending_entry, pending_at}
 use Rattle.register_file.specs.Picking.{Chosen}
 use Rattle.register_file.proofs.Lines.{Levels, chosen}
 use Rattle.register_file.proofs.Places.{at_past, at_ranges}
 use Rattle.mask_device.specs.declared.device.MaskDevice.{MaskDevice}
-use Rattle.mask_device.specs.declared.pending.PendingSets.{PendingSets}
 use Rattle.mask_device.specs.Meaning.{Above, mask_device}
 use Rattle.mask_device.specs.Pending.{pending_in, Replaced}
 

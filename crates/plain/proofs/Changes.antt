@@ -1,11 +1,11 @@
 -- What every change leaves: the priority of an interrupt that waits.
-use Rattle.std.proofs.Common.{◌≡◌, Bool, true, false, cond, not, ◌&&◌, refl, ap, ◌∙◌, arith}
+use Rattle.std.proofs.Common.{◌≡◌, Bool, true, false, cond, not, ◌&&◌, refl, ap, arith}
 use Rattle.std.proofs.lemmas.Bool.Decides.{nat_tests}
 use Rattle.interrupt.specs.declared.kind.Kind.{Kind}
 use Rattle.interrupt.specs.declared.kind.Kind.TheVariants.{Edge, Level}
 use Rattle.interrupt.specs.declared.cpu_interface.EoiMode.{EoiMode}
 use Rattle.interrupt.specs.declared.cpu_interface.EoiMode.TheVariants.{Joined, Split}
-use Rattle.guest.specs.Interrupts.{Interrupt, by_kind, pending, waits, at_rest, with_setup, with_latch, with_line, with_dropped}
+use Rattle.guest.specs.Interrupts.{Interrupt, by_kind, pending, waits, at_rest, with_setup, with_latch, with_line}
 use Rattle.guest.specs.Calls.{ended}
 use Rattle.plain.specs.declared.change.Change.{Change}
 use Rattle.plain.specs.declared.change.Change.TheVariants.{Configure, Enable, Disable, Raise, Lower, Acknowledge, End, Deactivate}

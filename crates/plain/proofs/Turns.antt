@@ -1,8 +1,8 @@
 -- First in turn, found from the front of the most urgent priority.
-use Rattle.std.proofs.Common.{◌≡◌, ℕ, ◌<◌, ◌≤◌, Bool, true, false, cond, ◌||◌, eqb, leb, ◌≢◌, List, [], ◌∷◌, Some, None, Option, sym, refl, ap, ◌∙◌, ⊎_elim, arith}
+use Rattle.std.proofs.Common.{◌≡◌, ℕ, ◌<◌, ◌≤◌, Bool, true, false, cond, eqb, leb, ◌≢◌, List, [], ◌∷◌, Some, None, Option, sym, refl, ap, ◌∙◌, ⊎_elim, arith}
 use Rattle.std.proofs.lemmas.Bool.{eqb-true, eqb-false, false≢true, cases_lt}
 use Rattle.std.proofs.lemmas.Bool.Decides.{nat_tests}
-use Rattle.interrupt.specs.Lists.{has, those, first, filled}
+use Rattle.interrupt.specs.Lists.{has, first, filled}
 use Rattle.interrupt.specs.Cpu.{admits}
 use Rattle.interrupt.specs.Sets.{lowest}
 use Rattle.interrupt.proofs.Lowest.{lowest_of}

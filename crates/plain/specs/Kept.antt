@@ -1,5 +1,5 @@
 -- What the plain guest keeps between its calls.
-use Rattle.std.specs.Prelude.{◌≡◌, ℕ, Bool, true, List}
+use Rattle.std.specs.Prelude.{◌≡◌, ℕ, true, List}
 use Rattle.interrupt.specs.Lists.{has}
 use Rattle.waiting.specs.declared.order.WaitingOrder.{WaitingOrder}
 use Rattle.waiting.specs.Order.{waiting_list, waits_at}

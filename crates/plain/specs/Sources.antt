@@ -1,6 +1,5 @@
 -- What an interrupt of the table means.
 use Rattle.std.specs.Prelude.{Bool, true, false}
-use Rattle.interrupt.specs.declared.kind.Kind.{Kind}
 use Rattle.guest.specs.Interrupts.{Interrupt, by_kind}
 use Rattle.plain.specs.declared.source.Source.{Source}
 use Rattle.plain.specs.declared.source.State.{State}

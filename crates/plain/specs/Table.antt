@@ -2,7 +2,6 @@
 use Rattle.std.specs.Prelude.{ℕ, Bool, false, List, slice_index_or}
 use Rattle.std.proofs.Common.{lit<}
 use Rattle.interrupt.specs.declared.kind.Kind.TheVariants.{Edge}
-use Rattle.interrupt.specs.declared.priority.Priority.{Priority}
 use Rattle.guest.specs.Interrupts.{Interrupt}
 use Rattle.plain.specs.declared.source.Source.{Source}
 use Rattle.plain.specs.declared.source.State.TheVariants.{Idle}

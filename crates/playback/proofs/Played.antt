@@ -1,5 +1,5 @@
 -- From a report of an open trace to the output for its file.
-use Rattle.std.proofs.Common.{◌≡◌, ℕ, ◌≤◌, List, ◌++◌, length, take, drop, Some, None, Ok, Err, Option, Result, sym, refl, ap, ◌∙◌, arith}
+use Rattle.std.proofs.Common.{◌≡◌, ℕ, ◌≤◌, List, length, take, drop, Some, None, Ok, Err, Option, sym, refl, ap, ◌∙◌, arith}
 use Rattle.std.proofs.lemmas.List.{take_at}
 use Rattle.guest.specs.Book.{Book, start}
 use Rattle.trace.specs.declared.contents.Section.{Section}
@@ -7,7 +7,6 @@ use Rattle.fault.specs.declared.Fault.{Fault}
 use Rattle.trace.specs.Contents.{setups_section, events_section}
 use Rattle.fault.specs.Faults.{◌else◌}
 use Rattle.trace.specs.Opening.{fault_of, events_in}
-use Rattle.report.specs.Lines.{onto}
 use Rattle.report.specs.Playing.{setup_declined, after_setups}
 use Rattle.report.specs.Reporting.{placed_in, room_for, report_text, Reports}
 use Rattle.playback.specs.declared.failure.Failure.{Failure}

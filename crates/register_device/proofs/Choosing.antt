@@ -1,18 +1,18 @@
 -- What is found among the words of the list registers, told of the device.
-use Rattle.std.proofs.Common.{◌≡◌, ℕ, ◌<◌, ◌≤◌, Bool, true, false, List, length, take, Some, None, Option, sym, refl, ap, ◌∙◌, subst, ⊎_elim, arith, MatchOption}
+use Rattle.std.proofs.Common.{◌≡◌, ℕ, ◌<◌, ◌≤◌, Bool, true, false, List, length, take, Some, None, Option, subst, ⊎_elim, arith, MatchOption}
 use Rattle.std.proofs.lemmas.Bool.{cases_lt}
 use Rattle.interrupt.specs.Cpu.{first_admitted}
 use Rattle.interrupt.specs.Sets.{some}
 use Rattle.list_register.specs.Entries.{Entry}
 use Rattle.register_file.specs.Picking.{Chosen}
 use Rattle.register_file.specs.Registers.{entries_of, pending_at}
-use Rattle.register_file.proofs.Lines.{Levels, chosen, chosen_none}
+use Rattle.register_file.proofs.Lines.{Levels, chosen}
 use Rattle.register_file.proofs.Places.{at_ranges}
 use Rattle.layout.specs.declared.list_word.ListWord.{ListWord}
 use Rattle.register_device.specs.declared.device.RegisterDevice.{RegisterDevice}
 use Rattle.register_device.specs.Meaning.{Below, register_device}
 use Rattle.register_device.specs.Words.{held_in}
-use Rattle.register_device.specs.Ranges.{held_range}
+use Rattle.layout.proofs.Ranges.{entry_in_range}
 
 -- the words that there are
 pub record View (d : RegisterDevice) (view : List ListWord) : Type 0 where
@@ -27,7 +27,7 @@ pub levels_in : (d : RegisterDevice) (view : List ListWord) (levels : ℕ → Bo
 levels_in d view levels v h =
     let of_so_many : ℕ → Type 0 = λ n. Shown n (entries_of held_in view) levels in
     let of_these : List ListWord → Type 0 = λ ws. Shown d.count (entries_of held_in ws) levels in
-    record { shown = subst of_these v.value (subst of_so_many v.len h); within = λ k. (at_ranges held_in held_range (take d.count d.list) k).priority }
+    record { shown = subst of_these v.value (subst of_so_many v.len h); within = λ k. (at_ranges held_in entry_in_range (take d.count d.list) k).priority }
 
 -- the first of so many registers that is pending at p, if there is one
 abbrev pub First : ℕ → (ℕ → Entry) → ℕ → Option ℕ → Type 0

@@ -1,5 +1,5 @@
 -- The status words, from parts of the list registers.
-use Rattle.std.proofs.Common.{◌≡◌, ℕ, ◌+◌, ◌-◌, ◌<◌, ◌≤◌, min, Bool, true, false, not, ◌&&◌, ltb, List, map, length, get_or, take, drop, sym, refl, ap, ◌∙◌, ⊎_elim, zero-add, arith, length-drop, length-take}
+use Rattle.std.proofs.Common.{◌≡◌, ℕ, ◌+◌, ◌-◌, ◌<◌, ◌≤◌, min, Bool, true, false, not, ltb, List, map, length, get_or, take, drop, sym, refl, ap, ◌∙◌, zero-add, arith, length-drop, length-take}
 use lib.Count.{ones}
 use Rattle.std.proofs.lemmas.List.{get_or-take, get_or-drop, take-map, drop-map}
 use Rattle.std.proofs.lemmas.Bool.Decides.{nat_tests}
@@ -8,7 +8,6 @@ use Rattle.interrupt.specs.Sets.{word_of, member}
 use Rattle.interrupt.proofs.Counting.{count_split, count_same}
 use Rattle.interrupt.proofs.Words.{word_same, word_wider, word_below, member_word, ones_count}
 use Rattle.list_register.specs.Entries.{Entry, nothing, is_valid}
-use Rattle.list_register.specs.Meaning.{Meaning}
 use Rattle.register_file.specs.Registers.{entries_of}
 use Rattle.layout.specs.declared.list_word.ListWord.{ListWord}
 use Rattle.register_device.specs.declared.device.RegisterDevice.{RegisterDevice}

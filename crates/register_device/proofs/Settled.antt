@@ -1,5 +1,5 @@
 -- Words that were packed from settings mean these settings.
-use Rattle.std.proofs.Common.{◌≡◌, ℕ, refl, ap, ◌∙◌}
+use Rattle.std.proofs.Common.{◌≡◌, ℕ}
 use Rattle.interrupt.specs.Meaning.{cpu_of, members}
 use Rattle.list_register.specs.Entries.{Entry}
 use Rattle.list_register.specs.Meaning.{Meaning}

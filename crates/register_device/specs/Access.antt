@@ -1,9 +1,9 @@
 -- Reading and writing a word by its offset.
-use Rattle.std.specs.Prelude.{◌≡◌, ℕ, ◌+◌, Bool, true, false, not, ◌&&◌, List, [], ◌∷◌, Some, None, Ok, Err, Option, Result, nat_lt}
+use Rattle.std.specs.Prelude.{ℕ, ◌+◌, Bool, true, false, not, ◌&&◌, List, [], ◌∷◌, Some, None, Ok, Err, Option, Result, nat_lt}
 use Rattle.refusal.specs.declared.Refusal.{Refusal}
 use Rattle.refusal.specs.declared.Refusal.TheVariants.{UnknownRegister, ReadOnly, BadLayout, DuplicateNumber}
 use Rattle.refusal.specs.Rows.{Row, ◌when◌, first_row, unless, say}
-use Rattle.interrupt.specs.Cpu.{Cpu, with_active_set}
+use Rattle.interrupt.specs.Cpu.{with_active_set}
 use Rattle.interrupt.specs.Sets.{member, word_of}
 use Rattle.list_register.specs.Entries.{is_valid}
 use Rattle.list_register.specs.Meaning.{Meaning, with_live, with_cpu, with_stray, with_entry}

@@ -1,4 +1,3 @@
 pub mod Access
 pub mod Meaning
 pub mod Words
-pub mod Ranges

@@ -2,9 +2,8 @@
 use Rattle.std.proofs.Common.{◌≡◌, ℕ, ◌<◌, ◌≤◌, Bool, true, false, cond, not, ◌&&◌, eqb, List, length, take, Some, None, Option, sym, refl, ap, ◌∙◌, subst, ⊎_elim, arith}
 use Rattle.std.proofs.lemmas.Bool.{eqb-true, eqb-false, cases_lt}
 use Rattle.std.proofs.lemmas.Bool.Decides.{nat_tests}
-use Rattle.interrupt.specs.Sets.{put, some}
-use Rattle.interrupt.proofs.Lowest.{some_none, some_at, some_not}
-use Rattle.list_register.specs.Entries.{Entry, nothing, is_valid, is_active, inactive, with_state, holds, twins}
+use Rattle.interrupt.proofs.Lowest.{some_none, some_at}
+use Rattle.list_register.specs.Entries.{Entry, is_valid, is_active, inactive, with_state, holds}
 use Rattle.register_file.specs.Registers.{Finds, Alone, entries_of}
 use Rattle.list_register.specs.Meaning.{Meaning, Apart, Ends, with_entry, with_entries, with_stray}
 use Rattle.list_register.specs.Calls.{active_with, released, risen, clashes}

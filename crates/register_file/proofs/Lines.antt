@@ -1,8 +1,8 @@
 -- From the priorities at which registers are pending to the line and to what acknowledge picks.
-use Rattle.std.proofs.Common.{◌≡◌, ℕ, ◌<◌, ◌≤◌, Bool, true, false, cond, ◌&&◌, eqb, ltb, is_some, Some, None, Option, sym, refl, ap, ◌∙◌, subst, ⊎_elim, arith, MatchOption}
+use Rattle.std.proofs.Common.{◌≡◌, ℕ, ◌<◌, ◌≤◌, Bool, true, false, ◌&&◌, eqb, is_some, Some, None, Option, sym, refl, ap, ◌∙◌, subst, ⊎_elim, arith, MatchOption}
 use Rattle.std.proofs.lemmas.Bool.{cases_lt}
 use Rattle.std.proofs.lemmas.Bool.Decides.{nat_tests}
-use Rattle.interrupt.specs.Cpu.{Cpu, admits, first_admitted, with_active_set}
+use Rattle.interrupt.specs.Cpu.{admits, first_admitted, with_active_set}
 use Rattle.interrupt.specs.Sets.{put, some, lowest}
 use Rattle.interrupt.proofs.Lowest.{some_none, some_at, some_found, lowest_of}
 use Rattle.interrupt.proofs.Urgency.{admits_less, first_some, first_none}

@@ -1,5 +1,5 @@
 -- Settings that were read, with one of them changed, and written back.
-use Rattle.std.proofs.Common.{◌≡◌, ℕ, sym, refl, ap, ◌∙◌}
+use Rattle.std.proofs.Common.{◌≡◌, ap, ◌∙◌}
 use Rattle.interrupt.specs.declared.priority_set.PrioritySet.{PrioritySet}
 use Rattle.interrupt.specs.Cpu.{with_active_set}
 use Rattle.interrupt.specs.Meaning.{members}

@@ -2,7 +2,7 @@
 use Rattle.std.specs.Prelude.{ℕ, List, [], ◌∷◌, ◌++◌, length, drop, Some, None, Ok, Err, codes, decimal, Option}
 use Rattle.refusal.specs.declared.Refusal.{Refusal}
 use Rattle.refusal.specs.Numbers.{refusal_number}
-use Rattle.guest.specs.Replies.{Reply, done, changed, acknowledged, Said}
+use Rattle.guest.specs.Replies.{done, changed, acknowledged, Said}
 
 -- an area with a text at its front, and past the text what it held before
 abbrev pub onto : List ℕ → List ℕ → List ℕ

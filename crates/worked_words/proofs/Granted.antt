@@ -1,5 +1,5 @@
 -- The calls of the worked device are granted, and its words are those worked out.
-use Rattle.std.proofs.Common.{◌≡◌, ℕ, [], ◌∷◌, Some, None, Ok, Err, Option, Result, sym, refl, ap, ◌∙◌}
+use Rattle.std.proofs.Common.{◌≡◌, ℕ, None, Ok, Option, Result, refl, ap, ◌∙◌}
 use Rattle.refusal.specs.declared.Refusal.{Refusal}
 use Rattle.refusal.specs.Rows.{first_row, say, unless}
 use Rattle.interrupt.specs.Sets.{some, lowest}
@@ -8,7 +8,7 @@ use Rattle.list_register.specs.Entries.{asked}
 use Rattle.list_register.specs.Meaning.{Meaning, blank, with_entry}
 use Rattle.list_register.specs.Calls.{Writes, write_rows}
 use Rattle.register_device.specs.Access.{word_read}
-use Rattle.worked_words.specs.Worked.{worked, worked_device}
+use Rattle.worked_words.specs.Worked.{worked_device}
 
 abbrev pub first_entry : RawEntry
 first_entry = record { state = 1; priority = 10; number = 37 }

@@ -1,8 +1,7 @@
 -- The worked words.
-use Rattle.std.specs.Prelude.{ℕ, true, false}
+use Rattle.std.specs.Prelude.{true, false}
 use Rattle.interrupt.specs.declared.cpu_interface.EoiMode.TheVariants.{Joined}
 use Rattle.list_register.specs.declared.state.State.TheVariants.{Pending, Active}
-use Rattle.list_register.specs.Entries.{Entry}
 use Rattle.list_register.specs.Meaning.{Meaning, blank, with_cpu, with_entry}
 use Rattle.worked_words.specs.declared.WorkedWords.{WorkedWords}
 

@@ -6,11 +6,10 @@ ghost use Rattle.list_register.specs.Shown.{device_made, entry_of};
 ghost use Rattle.register_file.specs.Picking.{Chosen};
 ghost use Rattle.register_file.specs.Registers.{Alone, Finds};
 ghost use Rattle.register_device.specs.Meaning.{Below, register_device};
-ghost use Rattle.std.proofs.Common.{arith};
 ghost use Rattle.interrupt.proofs.Words.{members_past};
 ghost use Rattle.register_file.proofs.Places.{at_past, at_ranges};
 ghost use Rattle.register_device.specs.Words.{held_in};
-ghost use Rattle.register_device.specs.Ranges.{held_range};
+ghost use Rattle.layout.proofs.Ranges.{entry_in_range, mask_in_range, stray_in_range};
 
 use super::{ROOM, RegisterDevice};
 use crate::pending::{first_pending, pending_levels};
@@ -93,10 +92,10 @@ impl RegisterFile for RegisterDevice {
         record {
           some = d.some;
           most = d.most;
-          mask = omega arith;
+          mask = mask_in_range d.machine.word;
           active = members_past d.active;
-          stray = omega arith;
-          ranges = at_ranges held_in held_range _;
+          stray = stray_in_range d.control.word;
+          ranges = at_ranges held_in entry_in_range (take d.count d.list);
           ends = at_past held_in d.list d.count;
           apart = d.apart;
         } };

@@ -1,9 +1,8 @@
-use Rattle.std.proofs.Common.{◌≡◌, ℕ, true, Ok, Err, Option, sym, refl, ap, ◌∙◌, arith}
+use Rattle.std.proofs.Common.{◌≡◌, ℕ, true, Ok, ap, ◌∙◌, arith}
 use Rattle.interrupt.specs.Cpu.{with_opened, with_mask}
 use Rattle.list_register.specs.Meaning.{Meaning, blank, with_cpu}
 use Rattle.register_device.specs.Meaning.{register_device}
-use Rattle.worked_words.specs.Worked.{worked_device}
-use Rattle.worked_words.proofs.Granted.{first_entry, second_entry, with_first, Granted, granted, first_granted, second_granted}
+use Rattle.worked_words.proofs.Granted.{first_entry, second_entry, with_first, granted, first_granted, second_granted}
 use Rattle.worked_words.proofs.worked_device.Goals as goal
 
 pub returns-in_err-write : goal.returns-in_err-write

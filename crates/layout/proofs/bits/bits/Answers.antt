@@ -1,4 +1,4 @@
-use Rattle.std.proofs.Common.{ℕ, ◌+◌, ◌-◌, ◌/◌, ◌^◌, arith}
+use Rattle.std.proofs.Common.{◌+◌, ◌-◌, ◌/◌, ◌^◌, arith}
 use Rattle.layout.proofs.Packing.{masked}
 use Rattle.layout.proofs.bits.bits.Goals as goal
 

@@ -1,4 +1,4 @@
-use Rattle.std.proofs.Common.{◌≡◌, Option, sym, ◌∙◌, subst, arith}
+use Rattle.std.proofs.Common.{Option, sym, ◌∙◌, subst, arith}
 use Rattle.layout.specs.declared.register.Register.{Register}
 use Rattle.layout.specs.Offsets.{Exists}
 use Rattle.layout.proofs.Offsets.{list_there, list_none}

@@ -1,4 +1,4 @@
-use Rattle.std.proofs.Common.{◌≡◌, sym, ap, ◌∙◌, below_more}
+use Rattle.std.proofs.Common.{sym, ap, ◌∙◌, below_more}
 use Rattle.list_register.specs.Entries.{Entry}
 use Rattle.register_file.specs.Registers.{pending_entry}
 use Rattle.register_file.proofs.Places.{at_place}

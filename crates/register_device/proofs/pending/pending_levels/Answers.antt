@@ -3,7 +3,7 @@ use Rattle.interrupt.specs.declared.priority_set.PrioritySet.{PrioritySet}
 use Rattle.interrupt.specs.Meaning.{members}
 use Rattle.interrupt.specs.Sets.{some}
 use Rattle.list_register.specs.Shown.{entry_of}
-use Rattle.register_file.specs.Registers.{entries_of, pending_at}
+use Rattle.register_file.specs.Registers.{entries_of}
 use Rattle.register_file.proofs.Places.{at_place}
 use Rattle.register_device.specs.Words.{held_in}
 use Rattle.register_device.proofs.Looking.{levels_then, levels_else}

@@ -1,4 +1,4 @@
-use Rattle.std.proofs.Common.{◌≡◌, ℕ, Bool, true, not, sym, refl, ap, ◌∙◌, arith}
+use Rattle.std.proofs.Common.{ℕ, Bool, not, sym, refl, ap, ◌∙◌, arith}
 use Rattle.interrupt.specs.Sets.{word_of}
 use Rattle.interrupt.proofs.Words.{word_then, word_else}
 use Rattle.list_register.specs.Entries.{Entry, is_valid}

@@ -1,6 +1,5 @@
-use Rattle.std.proofs.Common.{◌≡◌, sym, ap, ◌∙◌, below_more}
+use Rattle.std.proofs.Common.{sym, ap, ◌∙◌, below_more}
 use Rattle.list_register.specs.Entries.{holds}
-use Rattle.register_file.specs.Registers.{entries_of}
 use Rattle.register_file.proofs.Places.{at_place}
 use Rattle.register_file.proofs.search.holder.Goals as goal
 

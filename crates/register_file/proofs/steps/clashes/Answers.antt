@@ -1,5 +1,4 @@
-use Rattle.std.proofs.Common.{◌≡◌, ℕ, true, Some, None, sym, ◌∙◌, subst}
-use Rattle.list_register.specs.Entries.{is_valid}
+use Rattle.std.proofs.Common.{ℕ, Some, None, sym, ◌∙◌, subst}
 use Rattle.register_file.specs.Registers.{Finds}
 use Rattle.list_register.specs.Shown.{entry_of}
 use Rattle.register_file.proofs.Holders.{clash_found, clash_none}

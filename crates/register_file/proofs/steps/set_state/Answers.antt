@@ -1,4 +1,4 @@
-use Rattle.std.proofs.Common.{◌≡◌, sym, ap, ◌∙◌, subst}
+use Rattle.std.proofs.Common.{sym, ap, ◌∙◌, subst}
 use Rattle.list_register.specs.Entries.{Entry, with_state}
 use Rattle.list_register.specs.Meaning.{with_entry}
 use Rattle.register_file.specs.Registers.{Alone}

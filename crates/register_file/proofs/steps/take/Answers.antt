@@ -1,4 +1,4 @@
-use Rattle.std.proofs.Common.{◌≡◌, ℕ, ◌<◌, Bool, true, sym, ap, ◌∙◌, subst}
+use Rattle.std.proofs.Common.{ℕ, ◌<◌, true, sym, ap, ◌∙◌, subst}
 use Rattle.interrupt.specs.Cpu.{Cpu}
 use Rattle.interrupt.specs.Meaning.{members}
 use Rattle.interrupt.specs.Sets.{put}

@@ -1,4 +1,4 @@
-use Rattle.std.proofs.Common.{◌≡◌, ℕ, List, length, codes, ap, ◌∙◌, arith, rules}
+use Rattle.std.proofs.Common.{ℕ, length, codes, ap, ◌∙◌, arith}
 use Rattle.report.specs.Lines.{onto, number_line}
 use Rattle.report.proofs.Area.{number_line_bound, refusal_small}
 use Rattle.report.proofs.line.put_no.Goals as goal

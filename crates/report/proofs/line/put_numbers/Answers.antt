@@ -1,4 +1,4 @@
-use Rattle.std.proofs.Common.{◌≡◌, ℕ, ◌+◌, List, [], ◌∷◌, ◌++◌, length, decimal, sym, refl, ap, ◌∙◌, append_assoc, arith, length-append, rules}
+use Rattle.std.proofs.Common.{◌≡◌, ℕ, ◌+◌, List, [], ◌∷◌, ◌++◌, length, decimal, refl, ap, ◌∙◌, append_assoc, arith, length-append, rules}
 use Rattle.report.proofs.Area.{next_onto, length_number_line}
 use Rattle.report.specs.Lines.{onto}
 use Rattle.report.proofs.line.put_numbers.Goals as goal

@@ -1,6 +1,6 @@
-use Rattle.std.proofs.Common.{◌≡◌, ℕ, ◌+◌, ◌-◌, ◌/◌, ◌%◌, ◌^◌, ◌<◌, ◌≤◌, List, [], ◌∷◌, ◌++◌, length, get_or, take, drop, set, decimal, sym, refl, ap, ◌∙◌, arith, rules}
+use Rattle.std.proofs.Common.{ℕ, ◌+◌, ◌/◌, ◌%◌, List, [], set, decimal, sym, refl, ap, ◌∙◌, arith, rules}
 use Rattle.std.proofs.lemmas.Fmt.{decimal_step, decimal_digit}
-use Rattle.report.proofs.Area.{push_onto, length_onto, length_decimal_step, length_decimal_digit}
+use Rattle.report.proofs.Area.{push_onto, length_decimal_step, length_decimal_digit}
 use Rattle.report.specs.Lines.{onto}
 use Rattle.report.proofs.text.+put_decimal.Goals as goal
 

@@ -1,4 +1,4 @@
-use Rattle.std.proofs.Common.{sym, ap, ◌∙◌, arith}
+use Rattle.std.proofs.Common.{sym, arith}
 use Rattle.list_register.specs.Shown.{entry_of}
 use Rattle.register_file.proofs.Places.{at_first}
 use Rattle.mask_device.proofs.device.MaskDevice.entry_of.Goals as goal

@@ -1,4 +1,4 @@
-use Rattle.std.proofs.Common.{◌≡◌, ℕ, sym, ap, ◌∙◌, subst, arith, length-set}
+use Rattle.std.proofs.Common.{ℕ, sym, ap, ◌∙◌, subst, arith, length-set}
 use Rattle.list_register.specs.Entries.{Entry}
 use Rattle.list_register.specs.Meaning.{Apart, with_entries}
 use Rattle.list_register.specs.Shown.{entry_of}

@@ -1,7 +1,6 @@
-use Rattle.std.proofs.Common.{◌≡◌, ℕ, Bool, true, sym, ap, ◌∙◌, arith}
+use Rattle.std.proofs.Common.{Bool, true, sym, ap, ◌∙◌, arith}
 use Rattle.interrupt.specs.Meaning.{members}
 use Rattle.interrupt.specs.Sets.{put, some}
-use Rattle.mask_device.specs.Sets.{registers_in}
 use Rattle.mask_device.proofs.Sets.{replaced, summed_set, some_put}
 use Rattle.mask_device.proofs.pending.PendingSets.insert.Goals as goal
 

@@ -1,9 +1,8 @@
-use Rattle.std.proofs.Common.{◌≡◌, ℕ, ◌<◌, Bool, true, false, not, length, sym, ap, ◌∙◌, arith}
+use Rattle.std.proofs.Common.{◌≡◌, ℕ, Bool, true, false, not, sym, ap, ◌∙◌, arith}
 use Rattle.std.proofs.lemmas.Bool.Decides.{nat_tests}
 use Rattle.interrupt.specs.Meaning.{members}
 use Rattle.interrupt.specs.Sets.{put, some}
-use Rattle.mask_device.specs.declared.register_set.RegisterSet.{RegisterSet}
-use Rattle.mask_device.specs.Sets.{registers_in, in_set}
+use Rattle.mask_device.specs.Sets.{in_set}
 use Rattle.mask_device.proofs.Sets.{replaced, summed_set, put_same, some_left}
 use Rattle.mask_device.proofs.pending.PendingSets.remove.Goals as goal
 

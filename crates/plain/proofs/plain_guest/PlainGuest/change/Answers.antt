@@ -1,4 +1,4 @@
-use Rattle.std.proofs.Common.{◌≡◌, ℕ, ◌+◌, Bool, cond, not, ◌&&◌, eqb, sym, ap, ◌∙◌, arith}
+use Rattle.std.proofs.Common.{◌≡◌, ℕ, cond, not, ◌&&◌, eqb, sym, ap, ◌∙◌, arith}
 use Rattle.interrupt.specs.Lists.{has}
 use Rattle.interrupt.specs.Meaning.{id_of}
 use Rattle.interrupt.proofs.Ids.{id_below}
@@ -10,7 +10,7 @@ use Rattle.interrupt.specs.Counts.{one_if}
 use Rattle.plain.specs.Table.{at_of, actives}
 use Rattle.plain.proofs.Changes.{kept_priority}
 use Rattle.interrupt.proofs.Counting.{count_le, count_some}
-use Rattle.plain.proofs.Kept.{Step, step, own}
+use Rattle.plain.proofs.Kept.{step, own}
 use Rattle.plain.proofs.plain_guest.PlainGuest.change.Goals as goal
 
 pub recount-self-requires : goal.recount-self-requires

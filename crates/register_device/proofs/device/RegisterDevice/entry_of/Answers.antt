@@ -1,7 +1,7 @@
 use Rattle.std.proofs.Common.{sym, ◌∙◌}
 use Rattle.register_file.proofs.Places.{at_first}
 use Rattle.register_device.specs.Words.{held_in}
-use Rattle.register_device.specs.Ranges.{room}
+use Rattle.register_device.proofs.Ranges.{room}
 use Rattle.register_device.proofs.device.RegisterDevice.entry_of.Goals as goal
 
 pub returns : goal.returns

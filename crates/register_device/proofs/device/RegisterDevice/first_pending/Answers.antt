@@ -1,4 +1,4 @@
-use Rattle.std.proofs.Common.{◌≡◌, ℕ, Option, sym, ap, ◌∙◌, subst}
+use Rattle.std.proofs.Common.{ℕ, Option, sym, ap, ◌∙◌, subst}
 use Rattle.interrupt.specs.Cpu.{Cpu, first_admitted}
 use Rattle.interrupt.specs.Meaning.{members}
 use Rattle.register_file.specs.Picking.{Chosen}

@@ -2,7 +2,7 @@ use Rattle.std.proofs.Common.{sym, ap, ◌∙◌}
 use Rattle.register_file.proofs.Places.{at_first, at_past}
 use Rattle.layout.specs.Layouts.{entry_word}
 use Rattle.register_device.specs.Words.{held_in}
-use Rattle.register_device.specs.Ranges.{room}
+use Rattle.register_device.proofs.Ranges.{room}
 use Rattle.register_device.proofs.device.RegisterDevice.list_word.Goals as goal
 
 pub returns-then-k-self : goal.returns-then-k-self

@@ -1,5 +1,4 @@
-use Rattle.std.proofs.Common.{◌≡◌, refl, ◌∙◌, arith}
-use Rattle.interrupt.specs.Meaning.{members}
+use Rattle.std.proofs.Common.{refl, ◌∙◌, arith}
 use Rattle.register_file.proofs.Kept.{apart_new}
 use Rattle.register_file.proofs.Made.{blank_of, made_new}
 use Rattle.register_file.proofs.Places.{at_new}

@@ -1,4 +1,4 @@
-use Rattle.std.proofs.Common.{◌≡◌, ℕ, sym, ap, ◌∙◌, subst, length-set}
+use Rattle.std.proofs.Common.{ℕ, sym, ap, ◌∙◌, subst, length-set}
 use Rattle.interrupt.specs.Sets.{put}
 use Rattle.list_register.specs.Entries.{Entry}
 use Rattle.list_register.specs.Meaning.{Apart, with_entries}
@@ -7,7 +7,7 @@ use Rattle.register_file.proofs.Kept.{apart_put}
 use Rattle.register_file.proofs.Places.{at_set}
 use Rattle.register_device.specs.Meaning.{register_device}
 use Rattle.register_device.specs.Words.{held_in}
-use Rattle.register_device.specs.Ranges.{room}
+use Rattle.register_device.proofs.Ranges.{room}
 use Rattle.register_device.proofs.device.RegisterDevice.replace.Goals as goal
 
 pub invariant_of-self : goal.invariant_of-self
