@@ -1,12 +1,14 @@
 #!/usr/bin/env python3
-"""Respells this repository's own definitions and lemmas: words in snake case, types, facts and modules in camel case.
+"""Respells this repository's own definitions and lemmas: words in snake case, types and facts in camel case.
 
-usage: python3 tools/respell.py            at the top of the repository, once, after the kit's own port.py
+usage: python3 PATH/respell.py             at the top of the repository, once, after the kit's own port.py
 
-It collects the names that the .antt files below crates/ declare, turns those that have a dash, and a few that name a
-fact in lower case, and writes them in .antt files, in the ghost text of .rt files, and between backticks in README.md and docs/.
-Names that Rattle makes (goals, steps, invariants) and names that a file imports from elsewhere are left. It stops,
-and writes nothing, where two names would fall together.
+It collects the names with a dash that the .antt files below crates/ declare, and writes them anew in .antt and .rt files:
+in code, and in comments between backticks, as also in README.md and docs/. Code of .rt files has names with a dash in its
+clauses alone. FACTS and OTHERWISE below name what is turned in another way. Names that Rattle makes (goals, steps,
+invariants) and names that a file imports from elsewhere are left. It lays out the files at the end.
+Where two names with a dash would fall together it stops, and writes nothing; where a name comes to stand beside
+the same plain word in a file, it says so.
 """
 
 import os

@@ -4,7 +4,7 @@ use Rattle.std.specs.Char.{digit_value}
 use Rattle.std.specs.Str.{bytes_eq}
 
 -- the number that the digits of n and then these write in a base, if each is a digit of the base and the number is below 2 ^ 32.
--- `digitValue` takes letters of either case for ten and more, and gives 36 for a byte that is neither digit nor letter
+-- `digit_value` takes letters of either case for ten and more, and gives 36 for a byte that is neither digit nor letter
 abbrev pub read_on : ℕ → ℕ → List ℕ → Option ℕ
 read_on base n [] = cond (nat_lt n (2 ^ 32)) (Some n) None
 read_on base n (c ∷ cs) = cond (nat_lt (digit_value c) base) (read_on base (n * base + digit_value c) cs) None

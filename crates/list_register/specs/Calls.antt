@@ -1,5 +1,5 @@
 -- What each call of a list-register device does, answers and refuses.
-use Rattle.std.specs.Prelude.{◌≡◌, ℕ, ◌+◌, ◌<◌, ◌≤◌, min, Bool, true, false, cond, not, ◌&&◌, ltb, List, [], ◌∷◌, Some, None, Option, Result, ◌==◌, nat_lt}
+use Rattle.std.specs.Prelude.{◌≡◌, ℕ, ◌+◌, ◌<◌, ◌≤◌, min, Bool, true, false, cond, not, ◌&&◌, List, [], ◌∷◌, Some, None, Option, Result, ◌==◌, nat_lt}
 use Rattle.refusal.specs.declared.Refusal.{Refusal}
 use Rattle.refusal.specs.declared.Refusal.TheVariants.{PriorityRange, UnknownRegister, BadLayout, DuplicateNumber}
 use Rattle.refusal.specs.Rows.{Row, ◌when◌, first_row, unless, say}
@@ -38,7 +38,7 @@ abbrev pub Writes : ℕ → RawEntry → Meaning → Meaning → Result (Unit {0
 Writes k e m after r = Does (write_rows k e m) m (with_entry k (asked e) m) tt after r
 
 abbrev pub Masks : ℕ → Meaning → Meaning → Result (Unit {0}) Refusal → Type 0
-Masks p m after r = Does ((PriorityRange when ltb 31 p) ∷ []) m (with_cpu (with_mask p m.cpu) m) tt after r
+Masks p m after r = Does ((PriorityRange when nat_lt 31 p) ∷ []) m (with_cpu (with_mask p m.cpu) m) tt after r
 
 -- the line, and acknowledge
 
