@@ -62,3 +62,6 @@ pub after_prefix : (word : List ℕ) → 2 ≤ length word → get_or word 0 0 �
 after_prefix [] l x y = absurd (omega arith)
 after_prefix (a ∷ []) l x y = absurd (omega arith)
 after_prefix (a ∷ b ∷ cs) l x y = rw (take_rest, x, y)
+
+-- what a loop over digits and its ends come to
+pub ruleset reading = (read_none, read_more, read_stop, read_all, of_some)

@@ -1,2 +1,3 @@
 pub mod Splitting
 pub mod Digits
+pub mod Hex

@@ -1,72 +1,85 @@
--- Blanks and words, byte by byte.
-use Rattle.std.proofs.Common.{◌≡◌, ℕ, ◌+◌, ◌-◌, ◌<◌, ◌≤◌, Bool, true, false, eqb, List, [], ◌∷◌, ◌++◌, length, get_or, take, drop, sym, refl, ap, ◌∙◌, append_assoc, append-nil, arith}
-use Rattle.std.proofs.lemmas.List.{take_rest, take_more, drop_all, at_drop_more}
-use Rattle.std.proofs.lemmas.Bool.{cond-false, ne_eqb}
+-- The first word of a line, by the places of the first byte that is no blank and of the first blank after it.
+use Rattle.std.proofs.Common.{◌≡◌, ℕ, ◌+◌, ◌-◌, ◌<◌, Bool, true, false, not, cond, ltb, List, [], ◌∷◌, length, get_or, take, drop, Some, None, suc, sym, refl, ap, ◌∙◌, arith}
+use Rattle.std.specs.List.{position, position_or_len}
+use Rattle.std.proofs.lemmas.Bool.{ltb-true, ltb-false}
+use Rattle.std.proofs.lemmas.Bool.{false≢true}
+use Rattle.std.proofs.lemmas.Option.{cond_some, none-some}
+use Rattle.std.proofs.lemmas.List.{drop_all, get_or-drop, length-drop, take_rest}
+use Rattle.std.proofs.lemmas.List.Sums.{passes_at_first}
 use Rattle.console.specs.Words.{blank, to_blank, words_from, words}
-use Rattle.console.specs.Scan.{skip_blanks, from_blank, word_and_rest}
 
--- a blank in front changes nothing
-pub skip_more : (xs : List ℕ) → 0 < length xs → true ≡ blank (get_or xs 0 0) → skip_blanks (take (length xs - 1) (drop 1 xs)) ≡ skip_blanks xs
-skip_more [] h e = absurd (omega arith)
-skip_more (x ∷ xs) h e = rw (take_rest, ← e)
+-- where the first word begins and, of what begins with a word, where it ends
+abbrev start : List ℕ → ℕ
+start line = position_or_len (λ c. not (blank c)) line
 
-pub skip_none : (xs : List ℕ) → length xs ≡ 0 → skip_blanks xs ≡ xs
-skip_none [] h = refl
-skip_none (x ∷ xs) h = absurd (omega arith)
+abbrev end : List ℕ → ℕ
+end text = position_or_len blank text
 
--- the first n bytes of a line are no blanks
-pub record WithinWord (line : List ℕ) (n : ℕ) : Type 0 where
-  pub within : n ≤ length line
-  pub front : take n line ++ to_blank (drop n line) ≡ to_blank line
-  pub back : from_blank (drop n line) ≡ from_blank line
+dropped : (k c : ℕ) (cs : List ℕ) → drop (1 + k) (c ∷ cs) ≡ drop k cs
+dropped k c cs = ap (λ (m : ℕ). drop m (c ∷ cs)) {x = 1 + k} {y = suc k} (omega arith)
 
-pub within_none : (line : List ℕ) → WithinWord line 0
-within_none line = record { within = omega arith; front = refl; back = refl }
+taken : (k c : ℕ) (cs : List ℕ) → take (1 + k) (c ∷ cs) ≡ c ∷ take k cs
+taken k c cs = ap (λ (m : ℕ). take m (c ∷ cs)) {x = 1 + k} {y = suc k} (omega arith)
 
-module _ (line : List ℕ) (n : ℕ) (w : WithinWord line n) (h : n < length line) where
-  pub within_more : false ≡ blank (get_or line n 0) → WithinWord line (n + 1)
-  within_more e =
-      let f : to_blank (drop n line) ≡ get_or line n 0 ∷ to_blank (drop (n + 1) line) = at_drop_more to_blank line n 0 h ∙ rw (← e) in
-      let b : from_blank (drop n line) ≡ from_blank (drop (n + 1) line) = at_drop_more from_blank line n 0 h ∙ rw (← e) in
-      record {
-        within = omega arith;
-        front =
-            ap (λ (xs : List ℕ). xs ++ to_blank (drop (n + 1) line)) (take_more line n 0 h)
-            ∙ append_assoc (take n line) (get_or line n 0 ∷ []) (to_blank (drop (n + 1) line))
-            ∙ ap (λ (xs : List ℕ). take n line ++ xs) (sym f)
-            ∙ w.front;
-        back = sym b ∙ w.back;
-      }
+-- blanks in front change nothing
+skipped : (line : List ℕ) → words line ≡ words (drop (start line) line)
+skipped [] = refl
+skipped (c ∷ cs) = go (skipped cs) (blank c) refl
+  where
+    go : words cs ≡ words (drop (start cs) cs) → (b : Bool) → blank c ≡ b → words (c ∷ cs) ≡ words (drop (start (c ∷ cs)) (c ∷ cs))
+    go ih true e = rw e (ih ∙ ap words (sym (dropped (start cs) c cs)))
+    go ih false e = ap (λ (b : Bool). words (drop (cond (not (not b)) (1 + start cs) 0) (c ∷ cs))) (sym e)
 
-  -- a blank ends the word
-  pub within_blank : true ≡ blank (get_or line n 0) → (take n line ≡ to_blank line) × (drop n line ≡ from_blank line)
-  within_blank e =
-      let f : to_blank (drop n line) ≡ [] = at_drop_more to_blank line n 0 h ∙ rw (← e) in
-      let b : from_blank (drop n line) ≡ drop n line = at_drop_more from_blank line n 0 h ∙ rw (← e, ← at_drop_more (λ (xs : List ℕ). xs) line n 0 h) in
-      (sym (append-nil (take n line)) ∙ ap (λ (xs : List ℕ). take n line ++ xs) (sym f) ∙ w.front, sym b ∙ w.back)
-
--- and so does the line's end
-pub within_all : (line : List ℕ) (n : ℕ) → WithinWord line n → length line ≤ n → (take n line ≡ to_blank line) × (drop n line ≡ from_blank line)
-within_all line n w h =
-    let e = drop_all n line h in
-    let f = ap to_blank e in
-    let b = ap from_blank e in
-    (sym (append-nil (take n line)) ∙ ap (λ (xs : List ℕ). take n line ++ xs) (sym f) ∙ w.front, e ∙ sym b ∙ w.back)
+-- the bytes before the first blank
+front : (text : List ℕ) → take (end text) text ≡ to_blank text
+front [] = refl
+front (c ∷ cs) = go (front cs) (blank c) refl
+  where
+    go : take (end cs) cs ≡ to_blank cs → (b : Bool) → blank c ≡ b → take (end (c ∷ cs)) (c ∷ cs) ≡ to_blank (c ∷ cs)
+    go ih true e = rw e refl
+    go ih false e = rw e (taken (end cs) c cs ∙ ap (λ (xs : List ℕ). c ∷ xs) ih)
 
 -- no word begins before the first blank after a word
-words_past : (line : List ℕ) → words_from false line ≡ words (from_blank line)
-words_past [] = refl
-words_past (c ∷ cs) = go (words_past cs) (blank c) refl
+back : (text : List ℕ) → words_from false text ≡ words (drop (end text) text)
+back [] = refl
+back (c ∷ cs) = go (back cs) (blank c) refl
   where
-    go : words_from false cs ≡ words (from_blank cs) → (b : Bool) → blank c ≡ b → words_from false (c ∷ cs) ≡ words (from_blank (c ∷ cs))
-    go ih true e = rw e (rw e)
-    go ih false e = rw e ih
+    go : words_from false cs ≡ words (drop (end cs) cs) → (b : Bool) → blank c ≡ b → words_from false (c ∷ cs) ≡ words (drop (end (c ∷ cs)) (c ∷ cs))
+    go ih true e = rw (e, e) refl
+    go ih false e = rw e (ih ∙ ap words (sym (dropped (end cs) c cs)))
 
-pub first_and_rest : (line : List ℕ) → words line ≡ word_and_rest (to_blank (skip_blanks line)) (from_blank (skip_blanks line))
-first_and_rest [] = refl
-first_and_rest (c ∷ cs) = go (first_and_rest cs) (blank c) refl
+-- what begins with a word
+word_first : (text : List ℕ) → 0 < length text → not (blank (get_or text 0 0)) ≡ true → words text ≡ take (end text) text ∷ words (drop (end text) text)
+word_first [] some e = absurd (omega arith)
+word_first (c ∷ cs) some e = go (blank c) refl e
   where
-    go : words cs ≡ word_and_rest (to_blank (skip_blanks cs)) (from_blank (skip_blanks cs)) → (b : Bool) → blank c ≡ b → words (c ∷ cs) ≡ word_and_rest (to_blank (skip_blanks (c ∷ cs))) (from_blank (skip_blanks (c ∷ cs)))
-    go ih true e = rw e ih
-    go ih false e =
-        rw e (rw e (ap (λ (ws : List (List ℕ)). (c ∷ to_blank cs) ∷ ws) (words_past cs) ∙ sym (cond-false (eqb (length (c ∷ to_blank cs)) 0) [] ((c ∷ to_blank cs) ∷ words (from_blank cs)) (ne_eqb (length (c ∷ to_blank cs)) 0 (λ z. omega arith)))))
+    go : (b : Bool) → blank c ≡ b → not b ≡ true → words (c ∷ cs) ≡ take (end (c ∷ cs)) (c ∷ cs) ∷ words (drop (end (c ∷ cs)) (c ∷ cs))
+    go true e n = absurd (false≢true n)
+    go false e n = rw e (λ i. sym (taken (end cs) c cs ∙ ap (λ (xs : List ℕ). c ∷ xs) (front cs)) i ∷ (back cs ∙ ap words (sym (dropped (end cs) c cs))) i)
+
+-- a line without a word
+pub no_word : (line : List ℕ) → position (λ c. not (blank c)) line ≡ None → words line ≡ []
+no_word line e = go (ltb (start line) (length line)) refl e
+  where
+    go : (b : Bool) → ltb (start line) (length line) ≡ b → cond b (Some (start line)) None ≡ None → words line ≡ []
+    go true l n = absurd (none-some (start line) (sym n))
+    go false l n = skipped line ∙ ap words (drop_all (start line) line (ltb-false (start line) (length line) l))
+
+-- what begins at i, as a slice gives it
+abbrev from : ℕ → List ℕ → List ℕ
+from i line = take (length line - i) (drop i line)
+
+-- a line whose first word begins at i
+pub word_at : (line : List ℕ) (i : ℕ) → position (λ c. not (blank c)) line ≡ Some i → words line ≡ take (end (from i line)) (from i line) ∷ words (drop (end (from i line)) (from i line))
+word_at line i e =
+    let here = cond_some (ltb (start line) (length line)) (start line) i e in
+    let within : start line < length line = ltb-true (start line) (length line) here.0 in
+    let text : List ℕ = drop (start line) line in
+    let first : not (blank (get_or text 0 0)) ≡ true = ap (λ (c : ℕ). not (blank c)) (get_or-drop (start line) line 0 0 ∙ ap (λ (k : ℕ). get_or line k 0) {x = start line + 0} {y = start line} (omega arith)) ∙ passes_at_first (λ c. not (blank c)) line 0 within in
+    let same : text ≡ from i line = ap (λ (k : ℕ). drop k line) here.1 ∙ sym (take_rest line i) in
+    skipped line
+    ∙ word_first text (omega (arith, length-drop (start line) line)) first
+    ∙ ap (λ (t : List ℕ). take (end t) t ∷ words (drop (end t) t)) same
+
+-- where there is a word, and where there is none
+pub ruleset splitting = (no_word, word_at)

@@ -1,7 +1,9 @@
 -- The lines of answers.
-use Rattle.std.specs.Prelude.{ℕ, zero, suc, ◌+◌, ◌/◌, ◌%◌, ◌^◌, cond, List, [], ◌∷◌, ◌++◌, codes, decimal, nat_lt}
+use Rattle.std.specs.Prelude.{ℕ, zero, suc, ◌+◌, ◌/◌, ◌%◌, ◌^◌, cond, List, [], ◌∷◌, ◌++◌, Some, None, Ok, Err, Result, codes, decimal, nat_lt}
+use Rattle.refusal.specs.declared.Refusal.{Refusal}
+use Rattle.refusal.specs.Numbers.{refusal_number}
 use Rattle.console.specs.declared.answer.Answer.{Answer}
-use Rattle.console.specs.declared.answer.Answer.TheVariants.{Done, Word, Number, NoInterrupt, Line, Refused}
+use Rattle.console.specs.declared.answer.Answer.TheVariants.{Done, Word, Taken, Line}
 
 -- a hexadecimal digit, in capitals
 abbrev pub hex_digit : ℕ → ℕ
@@ -20,14 +22,18 @@ hex_word n = codes "0x" ++ hex_digits 8 n
 abbrev pub ended : List ℕ → List ℕ
 ended text = text ++ (10 ∷ [])
 
--- the line of each answer
-abbrev pub answer_line : Answer → List ℕ
-answer_line Done = ended (codes "ok")
-answer_line (Word n) = ended (hex_word n)
-answer_line (Number n) = ended (decimal n)
-answer_line NoInterrupt = ended (codes "none")
-answer_line (Line up) = ended (cond up (codes "up") (codes "down"))
-answer_line (Refused r) = ended (codes "no " ++ decimal r)
+-- what is shown of each answer
+abbrev pub answer_shown : Answer → List ℕ
+answer_shown Done = codes "ok"
+answer_shown (Word n) = hex_word n
+answer_shown (Taken (Some n)) = decimal n
+answer_shown (Taken None) = codes "none"
+answer_shown (Line up) = cond up (codes "up") (codes "down")
+
+-- the line of what was said to a command: its answer, or `no` and the number of the refusal
+abbrev pub answer_line : Result Answer Refusal → List ℕ
+answer_line (Ok answer) = ended (answer_shown answer)
+answer_line (Err r) = ended (codes "no " ++ decimal (refusal_number r))
 
 -- the answer to a line that is no command: the line as it was, byte for byte
 abbrev pub unreadable_line : List ℕ → List ℕ

@@ -1,5 +1,4 @@
 pub mod Answers
 pub mod Lines
 pub mod Numbers
-pub mod Scan
 pub mod Words

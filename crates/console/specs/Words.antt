@@ -1,7 +1,6 @@
 -- The words of a line.
-use Rattle.std.specs.Prelude.{◌≡◌, ℕ, ◌<◌, Bool, true, false, cond, ◌||◌, List, [], ◌∷◌, length, ◌==◌}
+use Rattle.std.specs.Prelude.{ℕ, Bool, true, false, cond, ◌||◌, List, [], ◌∷◌, ◌==◌}
 use Rattle.console.specs.declared.words.Words.{Words}
-use Rattle.console.specs.declared.words.Words.TheVariants.{Empty, One, Two, Three, Four, More}
 
 -- the space, the tab and the carriage return
 abbrev pub blank : ℕ → Bool
@@ -22,11 +21,6 @@ words_from fresh (c ∷ cs) = cond (blank c) (words_from true cs) (cond fresh ((
 abbrev pub words : List ℕ → List (List ℕ)
 words line = words_from true line
 
--- what is told of the words of a line: all of them, or that there are more than four
-abbrev pub Tells : Words → List (List ℕ) → Type 0
-Tells Empty ws = ws ≡ []
-Tells (One a) ws = ws ≡ a.now ∷ []
-Tells (Two a b) ws = ws ≡ a.now ∷ b.now ∷ []
-Tells (Three a b c) ws = ws ≡ a.now ∷ b.now ∷ c.now ∷ []
-Tells (Four a b c d) ws = ws ≡ a.now ∷ b.now ∷ c.now ∷ d.now ∷ []
-Tells More ws = 4 < length ws
+-- the words that are left of a line
+abbrev pub words_left : Words → List (List ℕ)
+words_left w = words w.rest.now

@@ -6,13 +6,8 @@ ghost use Rattle.console.specs.Lines.{without_end};
 pub fn without_end(line: &[u8]) -> &[u8]
     ensures { result.now ≡ without_end line.now }
 {
-    if line.is_empty() {
-        return line;
-    }
-    let last = line.len() - 1;
-    if line[last] == b'\n' {
-        &line[0..last]
-    } else {
-        line
+    match line {
+        [front @ .., b'\n'] => front,
+        _ => line,
     }
 }

@@ -5,6 +5,7 @@ ghost use Rattle.std.specs.Char.{digit_value};
 ghost use Rattle.console.specs.Numbers.{numeral, number};
 
 // The number that a word writes, in decimal or in hexadecimal after `0x`, if it is one below 2 ^ 32.
+#[tactic(auto, using(crate::proofs::Digits::after_prefix))]
 pub fn read_number(word: &[u8]) -> Option<u32>
     ensures { result ≡ number word.now }
 {
@@ -15,6 +16,7 @@ pub fn read_number(word: &[u8]) -> Option<u32>
 }
 
 // The number that one or more digits write.
+#[tactic(auto, using(crate::proofs::Digits::reading))]
 fn read_digits(digits: &[u8], base: u32) -> Option<u32>
     requires low { 2 ≤ base }
     requires high { base ≤ 36 }
@@ -24,6 +26,7 @@ fn read_digits(digits: &[u8], base: u32) -> Option<u32>
         return None;
     }
     let mut so_far = 0;
+    // a loop, whose invariant is one line; of a try_fold the check finds no result
     for c in digits {
         so_far = append_digit(so_far, *c, base)?;
     }

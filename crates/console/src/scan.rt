@@ -1,41 +1,30 @@
-// A line, read one word at a time.
-ghost use Rattle.std.specs.Prelude.{◌≡◌, ◌≤◌, length, take, drop};
-ghost use Rattle.console.specs.Words.{blank, to_blank, words};
-ghost use Rattle.console.specs.Scan.{skip_blanks, from_blank, word_and_rest};
+// The first word of a line.
+ghost use Rattle.std.specs.Prelude.{◌≡◌, ◌∷◌, [], MatchOption, not, position, ◌≤◌, length};
+ghost use Rattle.std.specs.List.{position_or_len};
+ghost use Rattle.console.specs.Words.{blank, words};
 
-// The first word of a line, which is empty if there is none, and what follows it.
-pub(crate) fn next_word(line: &[u8]) -> (&[u8], &[u8])
-    ensures { words line.now ≡ word_and_rest result.0.now result.1.now }
+// The first word of a line and what follows it, if the line has a word.
+#[tactic(auto, using(crate::proofs::Splitting::splitting))]
+pub(crate) fn first_word(line: &[u8]) -> Option<(&[u8], &[u8])>
+    ensures { MatchOption result (words line.now ≡ []) (λ r. words line.now ≡ r.0.now ∷ words r.1.now) }
 {
-    let rest = skip_blanks(line);
-    rest.split_at(word_len(rest))
+    let text = &line[word_start(line)?..];
+    Some(text.split_at(word_len(text)))
 }
 
-// The line from its first byte that is no blank.
-fn skip_blanks(line: &[u8]) -> &[u8]
-    ensures { result.now ≡ skip_blanks line.now }
+// Where the first word begins.
+fn word_start(line: &[u8]) -> Option<usize>
+    ensures { result ≡ position (λ c. not (blank c)) line.now }
 {
-    let mut rest = line;
-    while let [c, tail @ ..] = rest {
-        if !is_blank(*c) {
-            break;
-        }
-        rest = tail;
-    }
-    rest
+    line.iter().position(|c| !is_blank(*c))
 }
 
 // How many bytes stand before the first blank.
-fn word_len(line: &[u8]) -> usize
-    ensures within { result ≤ length line.now }
-    ensures front { take result line.now ≡ to_blank line.now }
-    ensures back { drop result line.now ≡ from_blank line.now }
+fn word_len(text: &[u8]) -> usize
+    ensures place { result ≡ position_or_len blank text.now }
+    ensures within { result ≤ length text.now }
 {
-    let mut n = 0;
-    while n < line.len() && !is_blank(line[n]) {
-        n += 1;
-    }
-    n
+    text.iter().take_while(|c| !is_blank(**c)).count()
 }
 
 // The blanks are the space, the tab and the carriage return.

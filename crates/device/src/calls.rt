@@ -5,7 +5,7 @@ ghost use Rattle.list_register.specs.Calls.{Acknowledges};
 ghost use Rattle.register_file.specs.Picking.{Prefers};
 
 use crate::interface::Device;
-use interrupt::cpu_interface::EoiMode;
+use interrupt::cpu_interface::{CpuInterface, EoiMode};
 use interrupt::id::InterruptId;
 use interrupt::priority::Priority;
 use interrupt::priority_set::PrioritySet;
@@ -13,7 +13,10 @@ use list_register::entry::{Entry, RawEntry};
 use list_register::stray::StrayCount;
 use refusal::Refusal;
 use register_file::file::RegisterFile;
-use register_file::steps::{clashes, deactivate_word, end_word, line_is_up, place, take_first};
+use register_file::settings::Settings;
+use register_file::steps::{
+    clashes, deactivate_word, end_word, line_is_up, place, set_cpu, set_stray, take_first,
+};
 
 impl<F: RegisterFile> Device for F {
     ghost meaning = { F.RegisterFile.meaning };
@@ -57,9 +60,10 @@ impl<F: RegisterFile> Device for F {
         Ok(self.entry_at(k))
     }
 
+    #[tactic(auto, using(register_file::proofs::Holders::stands_alone))]
     fn write(&mut self, register: u32, entry: RawEntry) -> Result<(), Refusal> {
         let k = place(self, register)?;
-        let entry = Entry::new(entry)?;
+        let entry = Entry::try_from(entry)?;
         if clashes(self, k, entry) {
             return Err(Refusal::DuplicateNumber);
         }
@@ -68,43 +72,34 @@ impl<F: RegisterFile> Device for F {
     }
 
     fn set_live(&mut self, live: bool) {
-        let mut settings = self.settings();
-        settings.live = live;
-        self.set_settings(settings);
+        let settings = self.settings();
+        self.set_settings(Settings { live, ..settings });
     }
 
     fn set_open(&mut self, open: bool) {
-        let mut settings = self.settings();
-        settings.cpu.open = open;
-        self.set_settings(settings);
+        let cpu = self.settings().cpu;
+        set_cpu(self, CpuInterface { open, ..cpu });
     }
 
     fn set_mask(&mut self, level: u32) -> Result<(), Refusal> {
-        let Some(mask) = Priority::new(level) else {
-            return Err(Refusal::PriorityRange);
-        };
-        let mut settings = self.settings();
-        settings.cpu.mask = mask;
-        self.set_settings(settings);
+        let mask = Priority::new(level).ok_or(Refusal::PriorityRange)?;
+        let cpu = self.settings().cpu;
+        set_cpu(self, CpuInterface { mask, ..cpu });
         Ok(())
     }
 
     fn set_mode(&mut self, mode: EoiMode) {
-        let mut settings = self.settings();
-        settings.cpu.mode = mode;
-        self.set_settings(settings);
+        let cpu = self.settings().cpu;
+        set_cpu(self, CpuInterface { mode, ..cpu });
     }
 
     fn set_active(&mut self, active: PrioritySet) {
-        let mut settings = self.settings();
-        settings.cpu.active = active;
-        self.set_settings(settings);
+        let cpu = self.settings().cpu;
+        set_cpu(self, CpuInterface { active, ..cpu });
     }
 
     fn clear_stray(&mut self) {
-        let mut settings = self.settings();
-        settings.stray = StrayCount::ZERO;
-        self.set_settings(settings);
+        set_stray(self, StrayCount::ZERO);
     }
 
     fn acknowledge(&mut self) -> Option<InterruptId>

@@ -1,5 +1,6 @@
 -- Faults: in which layer, for which refusal, at which byte of the file. Of several, the first that is judged.
-use Rattle.std.specs.Prelude.{ℕ, zero, suc, Bool, cond, Some, None, Option}
+use Rattle.std.specs.Prelude.{ℕ, zero, suc, Bool, cond, List, ◌++◌, Some, None, Option, codes, decimal}
+use Rattle.refusal.specs.Numbers.{refusal_number}
 use Rattle.refusal.specs.declared.Refusal.{Refusal}
 use Rattle.refusal.specs.declared.Refusal.TheVariants.{BadContents, BadField, TimeFalls, AreaTooSmall}
 use Rattle.fault.specs.declared.Layer.{Layer}
@@ -16,6 +17,10 @@ abbrev pub layer_number : Layer → ℕ
 layer_number Contents = 1
 layer_number Record = 2
 layer_number Guest = 3
+
+-- a fault as it is printed: `fault layer cause place`
+abbrev pub fault_text : Fault → List ℕ
+fault_text f = codes "fault " ++ (decimal (layer_number f.layer) ++ (codes " " ++ (decimal (refusal_number f.cause) ++ (codes " " ++ decimal f.place))))
 
 -- the size, or the table of contents
 abbrev pub bad_contents : ℕ → Fault

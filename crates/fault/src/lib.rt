@@ -1,35 +1,47 @@
 // Faults of a trace: in which layer, for which refusal, at which byte of the file. Each layer has a fault type of its own, which `?` turns into a fault.
 #![tactic(auto)]
 
-ghost use Rattle.std.specs.Prelude.{◌≡◌};
-ghost use Rattle.fault.specs.Faults.{layer_number, of_contents, of_record, of_guest};
+ghost use Rattle.std.specs.Prelude.{◌≡◌, Some};
+ghost use Rattle.fault.specs.Faults.{layer_number, fault_text, of_contents, of_record, of_guest};
 
 use refusal::Refusal;
+use std::fmt;
 
-#[derive(Clone, Copy)]
+#[derive(Clone, Copy, Debug, PartialEq, Eq)]
 pub enum Layer {
     Contents = 1,
     Record = 2,
     Guest = 3,
 }
 
-impl Layer {
-    // The number by which it is printed.
-    pub fn number(self) -> u8
-        ensures { result ≡ layer_number self }
-    {
-        self as u8
+// The number by which it is printed.
+impl From<Layer> for u8 {
+    ghost from_gives = { λ layer n. n ≡ layer_number layer };
+
+    fn from(layer: Layer) -> u8 {
+        layer as u8
     }
 }
 
-#[derive(Clone, Copy)]
+#[derive(Clone, Copy, Debug, PartialEq, Eq)]
 pub struct Fault {
     pub layer: Layer,
     pub cause: Refusal,
     pub place: usize,
 }
 
-#[derive(Clone, Copy)]
+// `fault layer cause place`.
+impl fmt::Display for Fault {
+    ghost output = { λ fault. Some (fault_text fault) };
+
+    fn fmt<W: fmt::Write>(&self, f: &mut fmt::Formatter<W>) -> fmt::Result {
+        let layer = u8::from(self.layer);
+        let cause = u8::from(self.cause);
+        write!(f, "fault {layer} {cause} {}", self.place)
+    }
+}
+
+#[derive(Clone, Copy, Debug, PartialEq, Eq)]
 pub enum ContentsFault {
     // the size or the table of contents is wrong, at this byte
     Wrong(usize),
@@ -37,7 +49,7 @@ pub enum ContentsFault {
     Area,
 }
 
-#[derive(Clone, Copy)]
+#[derive(Clone, Copy, Debug, PartialEq, Eq)]
 pub enum RecordFault {
     // the record at this byte has an unknown letter or a field out of range
     Field(usize),
@@ -46,7 +58,7 @@ pub enum RecordFault {
 }
 
 // The setup at this byte was declined.
-#[derive(Clone, Copy)]
+#[derive(Clone, Copy, Debug, PartialEq, Eq)]
 pub struct GuestFault {
     pub refusal: Refusal,
     pub place: usize,

@@ -1,10 +1,10 @@
 -- What an answer, or a refusal, tells of a call.
 use Rattle.std.proofs.Common.{◌≡◌, ℕ, Some, None, Ok, Err, Option, refl, ap, ◌∙◌, arith}
 use Rattle.refusal.specs.declared.Refusal.{Refusal}
-use Rattle.refusal.specs.Rows.{unless}
+use Rattle.refusal.specs.Rows.{unless, say}
 use Rattle.guest.specs.declared.call.Call.{Call}
 use Rattle.guest.specs.Book.{Book}
-use Rattle.guest.specs.Calls.{Does, refusal_of, effect, answer, say}
+use Rattle.guest.specs.Calls.{Does, refusal_of, effect, answer}
 use Rattle.guest.specs.Replies.{Reply, Said}
 
 -- a refusal is the first row that applies, and nothing changed

@@ -1,8 +1,8 @@
 -- What each call does, answers and refuses.
-use Rattle.std.specs.Prelude.{◌≡◌, ℕ, Bool, true, false, not, ◌&&◌, List, [], ◌∷◌, Some, None, Ok, Err, Option, ◌==◌, nat_lt}
+use Rattle.std.specs.Prelude.{◌≡◌, ℕ, Bool, true, false, not, ◌&&◌, List, [], ◌∷◌, Some, None, Option, ◌==◌, nat_lt}
 use Rattle.refusal.specs.declared.Refusal.{Refusal}
 use Rattle.refusal.specs.declared.Refusal.TheVariants.{UnknownInterrupt, Parked, Running, NotAtRest, PriorityRange, WrongKind, UnknownWord, NotRunningPriority, NotDropped, InterruptActive}
-use Rattle.refusal.specs.Rows.{Row, ◌when◌, first_row, unless}
+use Rattle.refusal.specs.Rows.{Row, ◌when◌, first_row, unless, say}
 use Rattle.interrupt.specs.declared.kind.Kind.{Kind}
 use Rattle.interrupt.specs.declared.cpu_interface.EoiMode.{EoiMode}
 use Rattle.interrupt.specs.Cpu.{running_priority, by_mode, with_opened, with_mask, with_mode, with_active as with_active_priority}
@@ -113,10 +113,6 @@ refusal_of c b = first_row (rows c b)
 -- a declined call changes nothing
 abbrev pub next : Call → Book → Book
 next c b = unless (refusal_of c b) b (effect c b)
-
-abbrev pub say : Option Refusal → Reply → Said
-say None a = Ok a
-say (Some r) a = Err r
 
 abbrev pub says : Call → Book → Said
 says c b = say (refusal_of c b) (answer c b)

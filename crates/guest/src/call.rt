@@ -1,6 +1,6 @@
 // The calls of a guest, and their answers, as values.
 ghost use Rattle.std.specs.Prelude.{◌≡◌};
-ghost use Rattle.guest.specs.Replies.{acknowledged, number_of, reply_number, reply_of};
+ghost use Rattle.guest.specs.Replies.{reply_number, reply_of};
 
 use interrupt::cpu_interface::EoiMode;
 use interrupt::id::InterruptId;
@@ -38,25 +38,15 @@ pub enum Answer {
 // The number that stands for no interrupt.
 const NO_INTERRUPT: u16 = 1023;
 
-impl Answer {
-    // The number of the answer: 0 where none is named, 1 or 0 for changed or not, the interrupt's number, or 1023 for none.
-    pub fn number(self) -> u16
-        ensures { result ≡ reply_number (reply_of self) }
-    {
-        match self {
-            Answer::Done => 0,
-            Answer::Changed(changed) => changed as u16,
-            Answer::Acknowledged(taken) => number_or_none(taken),
-        }
-    }
-}
+// The number of an answer: 0 where none is named, 1 or 0 for changed or not, the interrupt's number, or 1023 for none.
+impl From<Answer> for u16 {
+    ghost from_gives = { λ answer number. number ≡ reply_number (reply_of answer) };
 
-// The number of the interrupt that was taken, or 1023.
-fn number_or_none(taken: Option<InterruptId>) -> u16
-    ensures { result ≡ reply_number (acknowledged (number_of taken)) }
-{
-    match taken {
-        Some(id) => id.number(),
-        None => NO_INTERRUPT,
+    fn from(answer: Answer) -> u16 {
+        match answer {
+            Answer::Done => 0,
+            Answer::Changed(changed) => u16::from(changed),
+            Answer::Acknowledged(taken) => taken.map_or(NO_INTERRUPT, InterruptId::number),
+        }
     }
 }

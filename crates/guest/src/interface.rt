@@ -14,82 +14,53 @@ pub trait Guest {
     // what the guest means
     ghost book: { Self → Book };
 
-    // what holds of a guest between calls: a new one has it, and every call keeps it
-    ghost sound: { Self → Type 0 };
-
     // Sets an interrupt's kind and priority.
     fn configure(&mut self, number: u32, kind: Kind, priority: u32) -> Result<(), Refusal>
-        requires { sound self.old }
-        ensures kept { sound self.new }
-        ensures does { Does (Configure number kind priority) (book self.old) (book self.new) (as_done result) };
+        ensures { Does (Configure number kind priority) (book self.old) (book self.new) (as_done result) };
 
     // Enables an interrupt; true if it was disabled.
     fn enable(&mut self, number: u32) -> Result<bool, Refusal>
-        requires { sound self.old }
-        ensures kept { sound self.new }
-        ensures does { Does (Enable number) (book self.old) (book self.new) (as_changed result) };
+        ensures { Does (Enable number) (book self.old) (book self.new) (as_changed result) };
 
     // Disables an interrupt; true if it was enabled.
     fn disable(&mut self, number: u32) -> Result<bool, Refusal>
-        requires { sound self.old }
-        ensures kept { sound self.new }
-        ensures does { Does (Disable number) (book self.old) (book self.new) (as_changed result) };
+        ensures { Does (Disable number) (book self.old) (book self.new) (as_changed result) };
 
     // Sets an edge source's latch or a level source's line; true if it was clear.
     fn raise(&mut self, number: u32) -> Result<bool, Refusal>
-        requires { sound self.old }
-        ensures kept { sound self.new }
-        ensures does { Does (Raise number) (book self.old) (book self.new) (as_changed result) };
+        ensures { Does (Raise number) (book self.old) (book self.new) (as_changed result) };
 
     // Clears a level source's line; true if it was set.
     fn lower(&mut self, number: u32) -> Result<bool, Refusal>
-        requires { sound self.old }
-        ensures kept { sound self.new }
-        ensures does { Does (Lower number) (book self.old) (book self.new) (as_changed result) };
+        ensures { Does (Lower number) (book self.old) (book self.new) (as_changed result) };
 
     // Sets the priority mask.
     fn mask(&mut self, level: u32) -> Result<(), Refusal>
-        requires { sound self.old }
-        ensures kept { sound self.new }
-        ensures does { Does (Mask level) (book self.old) (book self.new) (as_done result) };
+        ensures { Does (Mask level) (book self.old) (book self.new) (as_done result) };
 
     // Opens the CPU interface, or closes it.
     fn open(&mut self, value: bool) -> Result<(), Refusal>
-        requires { sound self.old }
-        ensures kept { sound self.new }
-        ensures does { Does (Open value) (book self.old) (book self.new) (as_done result) };
+        ensures { Does (Open value) (book self.old) (book self.new) (as_done result) };
 
     // Sets the EOI mode.
     fn mode(&mut self, value: EoiMode) -> Result<(), Refusal>
-        requires { sound self.old }
-        ensures kept { sound self.new }
-        ensures does { Does (Mode value) (book self.old) (book self.new) (as_done result) };
+        ensures { Does (Mode value) (book self.old) (book self.new) (as_done result) };
 
     // Takes the interrupt that is first in turn, if any is eligible.
     fn acknowledge(&mut self) -> Result<Option<InterruptId>, Refusal>
-        requires { sound self.old }
-        ensures kept { sound self.new }
-        ensures does { Does Acknowledge (book self.old) (book self.new) (as_acknowledged result) };
+        ensures { Does Acknowledge (book self.old) (book self.new) (as_acknowledged result) };
 
     // Drops the running priority; if joined, deactivates too.
     fn end(&mut self, word: u32) -> Result<(), Refusal>
-        requires { sound self.old }
-        ensures kept { sound self.new }
-        ensures does { Does (End word) (book self.old) (book self.new) (as_done result) };
+        ensures { Does (End word) (book self.old) (book self.new) (as_done result) };
 
     // Deactivates an interrupt whose priority was dropped.
     fn deactivate(&mut self, word: u32) -> Result<(), Refusal>
-        requires { sound self.old }
-        ensures kept { sound self.new }
-        ensures does { Does (Deactivate word) (book self.old) (book self.new) (as_done result) };
+        ensures { Does (Deactivate word) (book self.old) (book self.new) (as_done result) };
 
     fn park(&mut self) -> Result<(), Refusal>
-        requires { sound self.old }
-        ensures kept { sound self.new }
-        ensures does { Does Park (book self.old) (book self.new) (as_done result) };
+        ensures { Does Park (book self.old) (book self.new) (as_done result) };
 
     fn resume(&mut self) -> Result<(), Refusal>
-        requires { sound self.old }
-        ensures kept { sound self.new }
-        ensures does { Does Resume (book self.old) (book self.new) (as_done result) };
+        ensures { Does Resume (book self.old) (book self.new) (as_done result) };
 }

@@ -1,7 +1,7 @@
 // A call that is given as a value.
 ghost use Rattle.std.specs.Prelude.{◌≡◌};
 ghost use Rattle.guest.specs.Calls.{Does};
-ghost use Rattle.guest.specs.Replies.{as_done, as_changed, as_reply};
+ghost use Rattle.guest.specs.Replies.{as_reply};
 
 use crate::call::{Answer, Call};
 use crate::interface::Guest;
@@ -9,39 +9,25 @@ use refusal::Refusal;
 
 // Makes the call on the guest.
 pub fn perform<G: Guest>(guest: &mut G, call: Call) -> Result<Answer, Refusal>
-    requires { G.Guest.sound guest.old }
-    ensures kept { G.Guest.sound guest.new }
-    ensures does { Does call (G.Guest.book guest.old) (G.Guest.book guest.new) (as_reply result) }
+    ensures { Does call (G.Guest.book guest.old) (G.Guest.book guest.new) (as_reply result) }
 {
     match call {
-        Call::Configure(number, kind, priority) => done(guest.configure(number, kind, priority)),
-        Call::Enable(number) => changed(guest.enable(number)),
-        Call::Disable(number) => changed(guest.disable(number)),
-        Call::Raise(number) => changed(guest.raise(number)),
-        Call::Lower(number) => changed(guest.lower(number)),
-        Call::Mask(level) => done(guest.mask(level)),
-        Call::Open(value) => done(guest.open(value)),
-        Call::Mode(value) => done(guest.mode(value)),
-        Call::Acknowledge => match guest.acknowledge() {
-            Ok(taken) => Ok(Answer::Acknowledged(taken)),
-            Err(refusal) => Err(refusal),
-        },
-        Call::End(word) => done(guest.end(word)),
-        Call::Deactivate(word) => done(guest.deactivate(word)),
-        Call::Park => done(guest.park()),
-        Call::Resume => done(guest.resume()),
+        Call::Configure(number, kind, priority) => {
+            guest
+                .configure(number, kind, priority)
+                .map(|()| Answer::Done)
+        }
+        Call::Enable(number) => guest.enable(number).map(Answer::Changed),
+        Call::Disable(number) => guest.disable(number).map(Answer::Changed),
+        Call::Raise(number) => guest.raise(number).map(Answer::Changed),
+        Call::Lower(number) => guest.lower(number).map(Answer::Changed),
+        Call::Mask(level) => guest.mask(level).map(|()| Answer::Done),
+        Call::Open(value) => guest.open(value).map(|()| Answer::Done),
+        Call::Mode(value) => guest.mode(value).map(|()| Answer::Done),
+        Call::Acknowledge => guest.acknowledge().map(Answer::Acknowledged),
+        Call::End(word) => guest.end(word).map(|()| Answer::Done),
+        Call::Deactivate(word) => guest.deactivate(word).map(|()| Answer::Done),
+        Call::Park => guest.park().map(|()| Answer::Done),
+        Call::Resume => guest.resume().map(|()| Answer::Done),
     }
-}
-
-fn done(r: Result<(), Refusal>) -> Result<Answer, Refusal>
-    ensures { as_reply result ≡ as_done r }
-{
-    r?;
-    Ok(Answer::Done)
-}
-
-fn changed(r: Result<bool, Refusal>) -> Result<Answer, Refusal>
-    ensures { as_reply result ≡ as_changed r }
-{
-    Ok(Answer::Changed(r?))
 }

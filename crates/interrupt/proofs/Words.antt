@@ -2,18 +2,20 @@
 use Rattle.std.proofs.Common.{◌≡◌, ℕ, zero, suc, ◌+◌, ◌*◌, ◌/◌, ◌%◌, ◌^◌, ◌<◌, ◌≤◌, Bool, true, false, cond, eqb, sym, refl, ap, ◌∙◌, ⊎_elim, le_of_suc-le-suc, not-suc-le-zero, mod-eq_of_lt, one-mul, add-one, one-add, arith}
 use native.Mathlib.Nat.{pow-succ', div-eq_of_lt-le}
 use lib.Bits.{bit_or, or_shifted_r}
-use lib.Count.{ones, ones_step, count_leading_zeros, leading_top}
+use lib.Count.{ones, ones_step}
 use Rattle.std.proofs.lemmas.Nat.{mod-pow-add, one_shl}
 use Rattle.std.proofs.lemmas.Bool.{cases_lt}
 use Rattle.std.proofs.lemmas.Bool.Decides.{nat_tests}
 use Rattle.interrupt.specs.declared.priority_set.PrioritySet.{PrioritySet}
 use Rattle.interrupt.specs.Counts.{one_if, count}
 use Rattle.interrupt.specs.Meaning.{members}
-use Rattle.interrupt.specs.Sets.{bit, member, word_of}
-use Rattle.interrupt.proofs.Bits.{bit_zero, bit_suc, bit_past, with_bit}
+use Rattle.std.specs.Int.{bit_at}
+use Rattle.std.proofs.lemmas.Nat.Bits.{bit_at_lowest, bit_at-suc, bit_at_above}
+use Rattle.interrupt.specs.Sets.{member, word_of}
+use Rattle.interrupt.proofs.Bits.{with_bit}
 
 -- bit p of a word is one where p is a member
-bit_member : (w p : ℕ) → bit w p ≡ one_if (member w p)
+bit_member : (w p : ℕ) → bit_at w p ≡ one_if (member w p)
 unfolding member
 bit_member w p = grind (arith, nat_tests)
 
@@ -62,7 +64,7 @@ word_wider k (suc n) s h none = ⊎_elim
 -- past its bits a word has no member
 pub member_past : (k w q : ℕ) → w < 2 ^ k → k ≤ q → member w q ≡ false
 unfolding member
-member_past k w q h l = ap (λ (n : ℕ). eqb n 1) (bit_past k w q h l)
+member_past k w q h l = ap (λ (n : ℕ). eqb n 1) (bit_at_above w k q h l)
 
 -- the members of the word of a set are the set's
 pub member_word : (k : ℕ) (s : ℕ → Bool) (p : ℕ) → p < k → member (word_of k s) p ≡ s p
@@ -87,22 +89,22 @@ unfolding word_of
 word_mod zero w = omega arith
 word_mod (suc k) w = go (word_mod k w) (member w k) refl
   where
-    step : w % 2 ^ suc k ≡ bit w k * 2 ^ k + w % 2 ^ k
+    step : w % 2 ^ suc k ≡ bit_at w k * 2 ^ k + w % 2 ^ k
     step = ap (λ (n : ℕ). w % 2 ^ n) (sym (one-add k)) ∙ mod-pow-add w 1 k
 
     go : word_of k (member w) ≡ w % 2 ^ k → (t : Bool) → member w k ≡ t → word_of k (member w) + cond t (2 ^ k) 0 ≡ w % 2 ^ suc k
-    go ih true e = let b : bit w k ≡ 1 = bit_member w k ∙ ap one_if e in omega (arith, step, ap (λ (n : ℕ). n * 2 ^ k) b)
-    go ih false e = let b : bit w k ≡ 0 = bit_member w k ∙ ap one_if e in omega (arith, step, ap (λ (n : ℕ). n * 2 ^ k) b)
+    go ih true e = let b : bit_at w k ≡ 1 = bit_member w k ∙ ap one_if e in omega (arith, step, ap (λ (n : ℕ). n * 2 ^ k) b)
+    go ih false e = let b : bit_at w k ≡ 0 = bit_member w k ∙ ap one_if e in omega (arith, step, ap (λ (n : ℕ). n * 2 ^ k) b)
 
 pub word_of_member : (k w : ℕ) → w < 2 ^ k → word_of k (member w) ≡ w
 word_of_member k w h = word_mod k w ∙ mod-eq_of_lt h
 
 -- how many bits are set
 
-count_shift : (k w : ℕ) → count (suc k) (member w) ≡ bit w 0 + count k (member (w / 2))
+count_shift : (k w : ℕ) → count (suc k) (member w) ≡ bit_at w 0 + count k (member (w / 2))
 unfolding count
 count_shift zero w = omega (arith, bit_member w 0)
-count_shift (suc k) w = omega (arith, bit_member w (suc k), bit_member (w / 2) k, bit_suc w k, count_shift k w)
+count_shift (suc k) w = omega (arith, bit_member w (suc k), bit_member (w / 2) k, bit_at-suc w k, count_shift k w)
 
 -- the ones of a word of k bits are the members of its set
 pub ones_count : (k w : ℕ) → w < 2 ^ k → ones w ≡ count k (member w)
@@ -110,20 +112,19 @@ unfolding ones count
 ones_count zero zero h = refl
 ones_count zero (suc w) h = absurd (not-suc-le-zero (le_of_suc-le-suc h))
 ones_count (suc k) w h =
-    ones_step w ∙ omega (arith, bit_zero w, count_shift k w, ones_count k (w / 2) (omega (arith, pow-succ' 2 k)))
+    ones_step w ∙ omega (arith, bit_at_lowest w, count_shift k w, ones_count k (w / 2) (omega (arith, pow-succ' 2 k)))
 
 -- the highest set bit
 
-top_bit : (w j : ℕ) → 2 ^ j ≤ w → w < 2 ^ suc j → bit w j ≡ 1
+top_bit : (w j : ℕ) → 2 ^ j ≤ w → w < 2 ^ suc j → bit_at w j ≡ 1
 top_bit w j l h = ap (λ (n : ℕ). n % 2) (div-eq_of_lt-le {k = 1} (2 ^ j) {m = w} (omega arith) (omega (arith, pow-succ' 2 j)))
 
--- r is the highest member of a word of k bits that is not 0
-pub highest : (k w r : ℕ) → 0 < w → w < 2 ^ k → r + 1 + count_leading_zeros k w ≡ k → (r < k) × (member w r ≡ true) × ((q : ℕ) → r < q → member w q ≡ false)
+-- the highest member of a word that is not 0
+pub highest : (w r : ℕ) → 2 ^ r ≤ w → w < 2 * 2 ^ r → (member w r ≡ true) × ((q : ℕ) → r < q → member w q ≡ false)
 unfolding member
-highest k w r pos small e =
-    let t = leading_top k w pos small in
-    let same : t.0 ≡ r = omega arith in
-    (omega arith, ap (λ (n : ℕ). eqb n 1) (ap (bit w) (sym same) ∙ top_bit w t.0 t.2 t.3), λ q h. member_past (suc t.0) w q t.3 (omega arith))
+highest w r l h =
+    let s : w < 2 ^ suc r = omega (arith, pow-succ' 2 r) in
+    (ap (λ (n : ℕ). eqb n 1) (top_bit w r l s), λ q m. member_past (suc r) w q s m)
 
 -- a set of priorities has none past 31
 pub members_past : (s : PrioritySet) (p : ℕ) → 32 ≤ p → members s p ≡ false

@@ -28,6 +28,10 @@ admits c p = c.opened && may_preempt p c.mask (running_priority c)
 abbrev pub first_admitted : Cpu → (ℕ → Bool) → Option ℕ
 first_admitted c s = cond (nat_lt (lowest 32 s) 32 && admits c (lowest 32 s)) (Some (lowest 32 s)) None
 
+-- the mode of a bit that is set where an end and its deactivation are split
+abbrev pub mode_of_bit : Bool → EoiMode
+mode_of_bit split = cond split Split Joined
+
 abbrev pub by_mode : {A : Type 0} → EoiMode → A → A → A
 by_mode Joined joined split = joined
 by_mode Split joined split = split

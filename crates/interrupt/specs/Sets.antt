@@ -1,13 +1,10 @@
 -- Sets of numbers, as functions from a number to whether it is in the set, and as words.
-use Rattle.std.specs.Prelude.{ℕ, zero, suc, ◌+◌, ◌/◌, ◌%◌, ◌^◌, Bool, false, cond, ◌||◌, ◌==◌}
-
--- bit p of a word, 0 or 1
-abbrev pub bit : ℕ → ℕ → ℕ
-bit w p = w / 2 ^ p % 2
+use Rattle.std.specs.Int.{bit_at}
+use Rattle.std.specs.Prelude.{ℕ, zero, suc, ◌+◌, ◌^◌, Bool, false, cond, ◌||◌, ◌==◌}
 
 -- the set that a word stands for: p is in it where bit p is set
 unfoldable pub member : ℕ → ℕ → Bool
-member w p = bit w p == 1
+member w p = bit_at w p == 1
 
 -- the word of a set: bit p, for each p below k, is set where p is in the set
 unfoldable pub word_of : ℕ → (ℕ → Bool) → ℕ

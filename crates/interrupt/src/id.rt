@@ -6,7 +6,7 @@ pub mod naming;
 // how many interrupts there are
 pub const COUNT: usize = 1020;
 
-#[derive(Clone, Copy)]
+#[derive(Clone, Copy, PartialEq, Eq)]
 pub struct InterruptId {
     number: u16,
     ghost named: { number < 1020 },

@@ -1,5 +1,5 @@
 // How an interrupt comes to be pending.
-#[derive(Clone, Copy)]
+#[derive(Clone, Copy, PartialEq, Eq)]
 pub enum Kind {
     // pending from a raise until it is acknowledged
     Edge,

@@ -4,7 +4,7 @@ ghost use Rattle.std.specs.Prelude.{◌≡◌, ◌<◌, ◌≤◌, MatchOption};
 // how many priorities there are
 pub const LEVELS: u8 = 32;
 
-#[derive(Clone, Copy)]
+#[derive(Clone, Copy, PartialEq, Eq)]
 pub struct Priority {
     level: u8,
     ghost known: { level < 32 },
@@ -14,11 +14,11 @@ impl Priority {
     // the most urgent of all
     pub const HIGHEST: Priority = Priority { level: 0 };
 
-    // The priority of this level, or none above 31.
+    // The priority of this level, or none above 31. Each caller has a refusal of its own for none, so this is no TryFrom.
     pub fn new(level: u32) -> Option<Priority>
         ensures { MatchOption result (32 ≤ level) (λ p. (level < 32) × (p.level ≡ level)) }
     {
-        if level >= LEVELS as u32 {
+        if level >= u32::from(LEVELS) {
             return None;
         }
         Some(Priority { level: level as u8 })

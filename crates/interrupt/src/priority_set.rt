@@ -1,4 +1,5 @@
-// A set of priorities, as a word in which bit p is set where p is in the set.
+// A set of priorities, as a word in which bit p is set where p is in the set. Sets of other widths share its laws and not its
+// code, since shifts of integers are no trait.
 ghost use Rattle.std.specs.Prelude.{◌^◌, ◌<◌};
 
 mod members;

@@ -1,5 +1,5 @@
 // A word as a set of priorities: bit p is set where p is in the set.
-ghost use Rattle.std.specs.Prelude.{◌≡◌, true, false};
+ghost use Rattle.std.specs.Prelude.{◌≡◌, ◌≤◌, true, false};
 ghost use Rattle.interrupt.specs.Sets.{member, lowest, put, word_of};
 
 use crate::priority::Priority;
@@ -25,7 +25,8 @@ pub(crate) fn without_bit(word: u32, p: Priority) -> u32
 
 // The lowest set bit, and 32 where none is.
 pub(crate) fn lowest_bit(word: u32) -> u32
-    ensures { result ≡ lowest 32 (member word) }
+    ensures value { result ≡ lowest 32 (member word) }
+    ensures within { result ≤ 32 }
 {
     word.trailing_zeros()
 }

@@ -1,5 +1,5 @@
 // The registers of a device, and the byte offset of each.
-ghost use Rattle.std.specs.Prelude.{◌≡◌, ℕ, MatchOption, ◌≢◌};
+ghost use Rattle.std.specs.Prelude.{◌≡◌, ◌<◌, ℕ, MatchOption, ◌≢◌};
 ghost use Rattle.layout.specs.Offsets.{offset_of, list_at, register_at, Exists};
 ghost use Rattle.layout.specs.declared.register.Register.TheVariants.{Lr};
 
@@ -60,18 +60,16 @@ fn list_register_at(count: u8, offset: u32) -> Option<Register>
     ensures within { Exists count result }
 {
     let k = list_index(offset)?;
-    if k >= count as u32 {
-        return None;
-    }
-    Some(Register::Lr(k as u8))
+    (k < count).then_some(Register::Lr(k))
 }
 
-// Which list register has this offset, however many there are.
-fn list_index(offset: u32) -> Option<u32>
-    ensures { MatchOption result ((k : ℕ) → offset ≢ offset_of (Lr k)) (λ k. offset ≡ offset_of (Lr k)) }
+// Which of the list registers 0 to 255 has this offset.
+fn list_index(offset: u32) -> Option<u8>
+    ensures { MatchOption result ((k : ℕ) → k < 256 → offset ≢ offset_of (Lr k)) (λ k. offset ≡ offset_of (Lr k)) }
 {
-    if offset < LR || offset % STEP != 0 {
+    let past = offset.checked_sub(LR)?;
+    if past % STEP != 0 {
         return None;
     }
-    Some((offset - LR) / STEP)
+    u8::try_from(past / STEP).ok()
 }

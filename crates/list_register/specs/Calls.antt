@@ -14,9 +14,13 @@ use Rattle.list_register.specs.Meaning.{Meaning, blank, with_cpu, with_stray, wi
 abbrev pub Does : {A : Type 0} → List Row → Meaning → Meaning → A → Meaning → Result A Refusal → Type 0
 Does rows m granted answer after r = (after ≡ unless (first_row rows) m granted) × (r ≡ say (first_row rows) answer)
 
--- a new device of n registers, 1 to 64
+-- as many registers as a device may have, 1 to 64
+abbrev pub fits : ℕ → Bool
+fits n = nat_lt 0 n && nat_lt n 65
+
+-- a new device of n registers
 abbrev pub making : ℕ → Result Meaning Refusal
-making n = say (first_row ((UnknownRegister when not (nat_lt 0 n && nat_lt n 65)) ∷ [])) (blank n)
+making n = say (first_row ((UnknownRegister when not (fits n)) ∷ [])) (blank n)
 
 -- reading and writing an entry, and the mask
 

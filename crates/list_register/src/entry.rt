@@ -9,7 +9,7 @@ use interrupt::id::InterruptId;
 use interrupt::priority::Priority;
 use refusal::Refusal;
 
-#[derive(Clone, Copy)]
+#[derive(Clone, Copy, PartialEq, Eq)]
 pub struct Entry {
     pub state: State,
     pub priority: Priority,
@@ -17,7 +17,7 @@ pub struct Entry {
 }
 
 // An entry as it is asked for: numbers that may be out of range.
-#[derive(Clone, Copy)]
+#[derive(Clone, Copy, PartialEq, Eq)]
 pub struct RawEntry {
     pub state: u32,
     pub priority: u32,
@@ -36,34 +36,25 @@ impl Entry {
         }
     }
 
-    // The entry that is asked for, if each of its numbers is in range.
-    pub fn new(raw: RawEntry) -> Result<Entry, Refusal>
-        ensures { MatchResult result (λ e. (out_of_range raw ≡ false) × (entry_of e ≡ asked raw)) (λ e. (out_of_range raw ≡ true) × (e ≡ BadLayout)) }
-    {
-        let Some(state) = State::new(raw.state) else {
-            return Err(Refusal::BadLayout);
-        };
-        let Some(priority) = Priority::new(raw.priority) else {
-            return Err(Refusal::BadLayout);
-        };
-        let Some(id) = InterruptId::new(raw.number) else {
-            return Err(Refusal::BadLayout);
-        };
-        Ok(Entry {
-            state,
-            priority,
-            id,
-        })
-    }
-
     // The entry in another state.
     pub fn with_state(self, state: State) -> Entry
         ensures { entry_of result ≡ with_state state (entry_of self) }
     {
-        Entry {
-            state,
-            priority: self.priority,
-            id: self.id,
-        }
+        Entry { state, ..self }
+    }
+}
+
+// The entry that is asked for, if each of its numbers is in range.
+impl TryFrom<RawEntry> for Entry {
+    type Error = Refusal;
+
+    ghost try_from_gives = { λ raw r. MatchResult r (λ e. (out_of_range raw ≡ false) × (entry_of e ≡ asked raw)) (λ e. (out_of_range raw ≡ true) × (e ≡ BadLayout)) };
+
+    fn try_from(raw: RawEntry) -> Result<Entry, Refusal> {
+        Ok(Entry {
+            state: State::try_from(raw.state)?,
+            priority: Priority::new(raw.priority).ok_or(Refusal::BadLayout)?,
+            id: InterruptId::new(raw.number).ok_or(Refusal::BadLayout)?,
+        })
     }
 }

@@ -1,8 +1,11 @@
 // The state of a list register.
-ghost use Rattle.std.specs.Prelude.{◌≡◌, ◌<◌, ◌≤◌, MatchOption};
+ghost use Rattle.std.specs.Prelude.{◌≡◌, ◌<◌, ◌≤◌, MatchResult};
+ghost use Rattle.refusal.specs.declared.Refusal.TheVariants.{BadLayout};
 ghost use Rattle.list_register.specs.Entries.{state_number, is_valid, is_pending, is_active, inactive, state_of};
 
-#[derive(Clone, Copy)]
+use refusal::Refusal;
+
+#[derive(Clone, Copy, PartialEq, Eq)]
 pub enum State {
     Empty = 0,
     Pending = 1,
@@ -11,39 +14,45 @@ pub enum State {
     Both = 3,
 }
 
-impl State {
-    // The state of this number, or none above 3.
-    pub fn new(number: u32) -> Option<State>
-        ensures { MatchOption result (4 ≤ number) (λ s. (number < 4) × (s ≡ state_of number)) }
-    {
+// The state of a number, which is at most 3.
+impl TryFrom<u32> for State {
+    type Error = Refusal;
+
+    ghost try_from_gives = { λ number r. MatchResult r (λ s. (number < 4) × (s ≡ state_of number)) (λ e. (4 ≤ number) × (e ≡ BadLayout)) };
+
+    fn try_from(number: u32) -> Result<State, Refusal> {
         match number {
-            0 => Some(State::Empty),
-            1 => Some(State::Pending),
-            2 => Some(State::Active),
-            3 => Some(State::Both),
-            _ => None,
+            0 => Ok(State::Empty),
+            1 => Ok(State::Pending),
+            2 => Ok(State::Active),
+            3 => Ok(State::Both),
+            _ => Err(Refusal::BadLayout),
         }
     }
+}
 
-    pub fn number(self) -> u32
-        ensures value { result ≡ state_number self }
-        ensures within { result < 4 }
-    {
-        self as u32
+// The number of a state.
+impl From<State> for u32 {
+    ghost from_gives = { λ s number. (number ≡ state_number s) × (number < 4) };
+
+    fn from(state: State) -> u32 {
+        state as u32
     }
+}
 
+impl State {
     // Not empty.
     pub fn is_valid(self) -> bool
         ensures { result ≡ is_valid self }
     {
-        !matches!(self, State::Empty)
+        self != State::Empty
     }
 
     // Pending and not active.
     pub fn is_pending(self) -> bool
         ensures { result ≡ is_pending self }
     {
-        matches!(self, State::Pending)
+        self == State::Pending
     }
 
     pub fn is_active(self) -> bool

@@ -5,7 +5,7 @@ ghost use Rattle.list_register.specs.Calls.{risen};
 // the count stops here
 const MOST: u8 = 31;
 
-#[derive(Clone, Copy)]
+#[derive(Clone, Copy, PartialEq, Eq)]
 pub struct StrayCount {
     count: u8,
     ghost few: { count < 32 },
@@ -14,11 +14,11 @@ pub struct StrayCount {
 impl StrayCount {
     pub const ZERO: StrayCount = StrayCount { count: 0 };
 
-    // The count of this number, or none above 31.
+    // The count of this number, or none above 31, as a Priority is made; a type of its own, so that one is not taken for the other.
     pub fn new(number: u32) -> Option<StrayCount>
         ensures { MatchOption result (32 ≤ number) (λ c. (number < 32) × (c.count ≡ number)) }
     {
-        if number > MOST as u32 {
+        if number > u32::from(MOST) {
             return None;
         }
         Some(StrayCount {

@@ -1,5 +1,5 @@
 -- One set among those of all priorities, and the summary of which are not empty.
-use Rattle.std.proofs.Common.{◌≡◌, ℕ, ◌<◌, ◌≤◌, Bool, true, false, cond, ◌&&◌, eqb, List, length, get_or, set, replicate, sym, refl, ap, ◌∙◌, ⊎_elim, arith, get_or-set_other, get_or-set_same}
+use Rattle.std.proofs.Common.{◌≡◌, ℕ, ◌<◌, ◌≤◌, Bool, true, false, cond, eqb, List, length, set, replicate, sym, refl, ap, ◌∙◌, ⊎_elim, arith, get_or-set_other, get_or-set_same}
 use lib.ListN.{get_or-replicate, length-replicate}
 use Rattle.std.proofs.lemmas.List.{get_or_past}
 use Rattle.std.proofs.lemmas.Bool.{eqb-true, eqb-false, cases_lt}
@@ -8,7 +8,6 @@ use Rattle.interrupt.proofs.Bits.{no_member}
 use Rattle.interrupt.proofs.Lowest.{some_none, some_at, some_not}
 use Rattle.mask_device.specs.declared.register_set.RegisterSet.{RegisterSet}
 use Rattle.mask_device.specs.Sets.{registers_in, no_registers, in_set}
-use Rattle.mask_device.specs.Pending.{Replaced}
 
 -- the set of priority p becomes s
 set_in : (sets : List RegisterSet) (p : ℕ) (s : RegisterSet) → p < length sets → (q k : ℕ) → in_set (set sets p s) q k ≡ cond (eqb q p) (registers_in s k) (in_set sets q k)
@@ -17,14 +16,6 @@ set_in sets p s h q k = go (eqb q p) refl
     go : (t : Bool) → eqb q p ≡ t → in_set (set sets p s) q k ≡ cond t (registers_in s k) (in_set sets q k)
     go true e = ap (λ (r : ℕ). in_set (set sets p s) r k) (eqb-true q p e) ∙ ap (λ (t : RegisterSet). registers_in t k) (get_or-set_same sets p s no_registers h)
     go false e = ap (λ (t : RegisterSet). registers_in t k) (get_or-set_other sets p q s no_registers (eqb-false q p e))
-
--- register k enters the set of priority p, or leaves it
-pub replaced : (sets : List RegisterSet) (p l k : ℕ) (v : Bool) (s : RegisterSet) → l ≡ p → l < length sets → registers_in s ≡ put k v (registers_in (get_or sets l no_registers)) → Replaced p k v (in_set sets) (in_set (set sets l s))
-replaced sets p l k v s e h f q j = set_in sets l s h q j ∙ ap (λ (r : ℕ). cond (eqb q r) (registers_in s j) (in_set sets q j)) e ∙ go (eqb q p) refl
-  where
-    go : (t : Bool) → eqb q p ≡ t → cond t (registers_in s j) (in_set sets q j) ≡ cond (t && eqb j k) v (in_set sets q j)
-    go true a = ap (λ (g : ℕ → Bool). g j) f ∙ ap (λ (r : ℕ). put k v (registers_in (get_or sets r no_registers)) j) (e ∙ sym (eqb-true q p a))
-    go false a = refl
 
 -- which sets are not empty
 abbrev pub Summed : (ℕ → Bool) → List RegisterSet → Type 0

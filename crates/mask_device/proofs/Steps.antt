@@ -1,67 +1,29 @@
 -- The entries and the pending sets stay in step.
-use Rattle.std.proofs.Common.{◌≡◌, ℕ, ◌<◌, ◌≤◌, Bool, true, false, cond, ◌&&◌, eqb, take, Some, None, Option, sym, refl, ap, ◌∙◌, ⊎_elim, arith, MatchOption}
-use Rattle.std.proofs.lemmas.Bool.{eqb-true, cases_lt}
-use Rattle.std.proofs.lemmas.Bool.Decides.{nat_tests}
+use Rattle.std.proofs.Common.{◌≡◌, ℕ, ◌<◌, ◌≤◌, Bool, true, false, cond, eqb, Some, None, Option, sym, refl, ap, ◌∙◌, ⊎_elim, arith, MatchOption}
+use Rattle.std.proofs.lemmas.Bool.{cases_lt}
 use Rattle.interrupt.specs.Cpu.{first_admitted}
 use Rattle.interrupt.specs.Sets.{put, some}
 use Rattle.interrupt.proofs.Ids.{id_below}
 use Rattle.interrupt.proofs.Lowest.{some_none, some_not}
-use Rattle.list_register.specs.Entries.{Entry, nothing, is_pending}
+use Rattle.list_register.specs.Entries.{Entry, nothing}
 use Rattle.list_register.specs.Meaning.{Ends}
-use Rattle.list_register.specs.Shown.{entry_of}
 use Rattle.register_file.specs.Registers.{pending_entry, pending_at}
 use Rattle.register_file.specs.Picking.{Chosen}
 use Rattle.register_file.proofs.Lines.{Levels, chosen}
-use Rattle.register_file.proofs.Places.{at_past, at_ranges}
+use Rattle.register_file.proofs.Entries.{ends, in_range}
 use Rattle.mask_device.specs.declared.device.MaskDevice.{MaskDevice}
 use Rattle.mask_device.specs.Meaning.{Above, mask_device}
-use Rattle.mask_device.specs.Pending.{pending_in, Replaced}
-
--- the sets are in step with what the registers hold
-abbrev pub Steps : (ℕ → Entry) → (ℕ → ℕ → Bool) → Type 0
-Steps at sets = (p k : ℕ) → k < 64 → sets p k ≡ pending_entry (at k) p
+use Rattle.mask_device.specs.Highest.{Highest}
+use Rattle.mask_device.specs.Pending.{pending_in}
+use Rattle.mask_device.specs.Step.{InStep}
 
 -- new registers
-pub steps_new : (at : ℕ → Entry) (sets : ℕ → ℕ → Bool) → at ≡ (λ _. nothing) → ((p k : ℕ) → sets p k ≡ false) → Steps at sets
+pub steps_new : (at : ℕ → Entry) (sets : ℕ → ℕ → Bool) → at ≡ (λ _. nothing) → ((p k : ℕ) → sets p k ≡ false) → InStep at sets
 steps_new at sets e f p k h = f p k ∙ sym (ap (λ (g : ℕ → Entry). pending_entry (g k) p) e)
 
--- register k was in no set but that of its entry, and leaves it
-pub left_idle : (k : ℕ) (old : Entry) (sets : ℕ → ℕ → Bool) → ((p : ℕ) → sets p k ≡ pending_entry old p) → is_pending old.state ≡ false → (p j : ℕ) → sets p j ≡ cond (eqb j k) false (sets p j)
-left_idle k old sets was idle p j = go (eqb j k) refl
-  where
-    go : (t : Bool) → eqb j k ≡ t → sets p j ≡ cond t false (sets p j)
-    go true e = ap (sets p) (eqb-true j k e) ∙ was p ∙ (rw idle refl)
-    go false e = refl
-
-pub left_removed : (k : ℕ) (old : Entry) (before after : ℕ → ℕ → Bool) → ((p : ℕ) → before p k ≡ pending_entry old p) → is_pending old.state ≡ true → Replaced old.priority k false before after → (p j : ℕ) → after p j ≡ cond (eqb j k) false (before p j)
-left_removed k old before after was pending r p j = r p j ∙ go (eqb j k) refl (eqb p old.priority) refl
-  where
-    go : (t : Bool) → eqb j k ≡ t → (u : Bool) → eqb p old.priority ≡ u → cond (u && t) false (before p j) ≡ cond t false (before p j)
-    go true e true f = refl
-    go true e false f = ap (before p) (eqb-true j k e) ∙ was p ∙ (let g : eqb old.priority p ≡ false = grind (arith, nat_tests) in rw pending g)
-    go false e true f = refl
-    go false e false f = refl
-
--- register k was in no set, and enters that of its entry
-pub entered_idle : (k : ℕ) (new : Entry) (sets : ℕ → ℕ → Bool) → ((p : ℕ) → sets p k ≡ false) → is_pending new.state ≡ false → (p j : ℕ) → sets p j ≡ cond (eqb j k) (pending_entry new p) (sets p j)
-entered_idle k new sets was idle p j = go (eqb j k) refl
-  where
-    go : (t : Bool) → eqb j k ≡ t → sets p j ≡ cond t (pending_entry new p) (sets p j)
-    go true e = ap (sets p) (eqb-true j k e) ∙ was p ∙ sym (rw idle refl)
-    go false e = refl
-
-pub entered_inserted : (k : ℕ) (new : Entry) (before after : ℕ → ℕ → Bool) → ((p : ℕ) → before p k ≡ false) → is_pending new.state ≡ true → Replaced new.priority k true before after → (p j : ℕ) → after p j ≡ cond (eqb j k) (pending_entry new p) (before p j)
-entered_inserted k new before after was pending r p j = r p j ∙ go (eqb j k) refl (eqb p new.priority) refl
-  where
-    go : (t : Bool) → eqb j k ≡ t → (u : Bool) → eqb p new.priority ≡ u → cond (u && t) true (before p j) ≡ cond t (pending_entry new p) (before p j)
-    go true e true f = let g : eqb new.priority p ≡ true = grind (arith, nat_tests) in sym (rw pending g)
-    go true e false f = ap (before p) (eqb-true j k e) ∙ was p ∙ (let g : eqb new.priority p ≡ false = grind (arith, nat_tests) in sym (rw pending g))
-    go false e true f = refl
-    go false e false f = refl
-
 -- register k leaves its set and enters another
-pub steps_put : (k : ℕ) (new : Entry) (at : ℕ → Entry) (before between after : ℕ → ℕ → Bool) → Steps at before →
-    ((p j : ℕ) → between p j ≡ cond (eqb j k) false (before p j)) → ((p j : ℕ) → after p j ≡ cond (eqb j k) (pending_entry new p) (between p j)) → Steps (put k new at) after
+pub steps_put : (k : ℕ) (new : Entry) (at : ℕ → Entry) (before between after : ℕ → ℕ → Bool) → InStep at before →
+    ((p j : ℕ) → between p j ≡ cond (eqb j k) false (before p j)) → ((p j : ℕ) → after p j ≡ cond (eqb j k) (pending_entry new p) (between p j)) → InStep (put k new at) after
 steps_put k new at before between after steps left entered p j h = entered p j ∙ go (eqb j k) refl
   where
     go : (t : Bool) → eqb j k ≡ t → cond t (pending_entry new p) (between p j) ≡ pending_entry (cond t new (at j)) p
@@ -69,7 +31,7 @@ steps_put k new at before between after steps left entered p j h = entered p j �
     go false e = left p j ∙ (rw e (steps p j h))
 
 -- by the sets, at which priorities registers are pending
-pub levels_of : (n : ℕ) (at : ℕ → Entry) (sets : ℕ → ℕ → Bool) (levels : ℕ → Bool) → n ≤ 64 → Ends n at → ((k : ℕ) → (at k).priority < 32) → Steps at sets → ((p : ℕ) → p < 32 → levels p ≡ some 64 (sets p)) → Levels n at levels
+pub levels_of : (n : ℕ) (at : ℕ → Entry) (sets : ℕ → ℕ → Bool) (levels : ℕ → Bool) → n ≤ 64 → Ends n at → ((k : ℕ) → (at k).priority < 32) → InStep at sets → ((p : ℕ) → p < 32 → levels p ≡ some 64 (sets p)) → Levels n at levels
 levels_of n at sets levels l ends within steps summed = record { shown = λ p h. summed p h ∙ same p (some n (pending_at at p)) refl; within = within }
   where
     past : (p k : ℕ) → n ≤ k → pending_entry (at k) p ≡ false
@@ -87,21 +49,21 @@ levels_of n at sets levels l ends within steps summed = record { shown = λ p h.
         go false f = absurd (let none = some_none n (pending_at at p) (λ k h. sym (steps p k (omega arith)) ∙ some_not 64 (sets p) f k (omega arith)) in let z : ◌≡◌ {A = ℕ} 0 1 = cc in omega arith)
 
 -- the same of a device
-pub levels_in : (d : MaskDevice) (levels : ℕ → Bool) → ((p : ℕ) → p < 32 → levels p ≡ some 64 (pending_in d.pending p)) → Levels d.count (mask_device d).at levels
+pub levels_in : (d : MaskDevice) (levels : ℕ → Bool) → ((p : ℕ) → p < 32 → levels p ≡ some 64 (pending_in d.pending p)) → Levels d.registers.count (mask_device d).at levels
 levels_in d levels summed =
-    levels_of d.count (mask_device d).at (pending_in d.pending) levels d.most (at_past entry_of d.entries d.count)
-    (λ k. (at_ranges entry_of (λ e. record { priority = e.priority.known; number = id_below e.id }) (take d.count d.entries) k).priority) d.step summed
+    levels_of d.registers.count (mask_device d).at (pending_in d.pending) levels d.registers.most (ends d.registers)
+    (λ k. (in_range d.registers (λ e. record { priority = e.priority.known; number = id_below e.id }) k).priority) d.step summed
 
 -- the highest register that is pending at the first admitted priority
 pub chosen_in : (d : MaskDevice) (levels : ℕ → Bool) (p : ℕ) (o : Option ℕ) → ((p : ℕ) → p < 32 → levels p ≡ some 64 (pending_in d.pending p)) → first_admitted (mask_device d).cpu levels ≡ Some p →
-    MatchOption o ((k : ℕ) → pending_in d.pending p k ≡ false) (λ k. (k < 64) × (pending_in d.pending p k ≡ true) × ((q : ℕ) → k < q → pending_in d.pending p q ≡ false)) → Chosen Above (mask_device d) o
+    Highest (pending_in d.pending p) o → Chosen Above (mask_device d) o
 chosen_in d levels p o summed e f = chosen Above (mask_device d) levels p o (levels_in d levels summed) e (go o f)
   where
-    inside : (k : ℕ) → pending_entry ((mask_device d).at k) p ≡ true → k < d.count
-    inside k h = ⊎_elim (λ (l : k < d.count). l)
-        (λ (l : d.count ≤ k). absurd (let n = ap (λ (e : Entry). pending_entry e p) (at_past entry_of d.entries d.count k l) in let z : ◌≡◌ {A = ℕ} 0 1 = cc in omega arith)) (cases_lt k d.count)
+    inside : (k : ℕ) → pending_entry ((mask_device d).at k) p ≡ true → k < d.registers.count
+    inside k h = ⊎_elim (λ (l : k < d.registers.count). l)
+        (λ (l : d.registers.count ≤ k). absurd (let n = ap (λ (e : Entry). pending_entry e p) (ends d.registers k l) in let z : ◌≡◌ {A = ℕ} 0 1 = cc in omega arith)) (cases_lt k d.registers.count)
 
-    go : (o : Option ℕ) → MatchOption o ((k : ℕ) → pending_in d.pending p k ≡ false) (λ k. (k < 64) × (pending_in d.pending p k ≡ true) × ((q : ℕ) → k < q → pending_in d.pending p q ≡ false)) →
-        MatchOption o ((k : ℕ) → k < d.count → pending_at (mask_device d).at p k ≡ false) (λ k. (k < d.count) × (pending_at (mask_device d).at p k ≡ true) × ((j : ℕ) → j < d.count → pending_at (mask_device d).at p j ≡ true → j ≤ k))
-    go None none = λ k l. sym (d.step p k (let m = d.most in omega arith)) ∙ none k
-    go (Some k) found = let h = sym (d.step p k found.0) ∙ found.1 in (inside k h, h, λ j l g. ⊎_elim (λ (u : k < j). absurd (let f = found.2 j u in let s = d.step p j (let m = d.most in omega arith) in let z : ◌≡◌ {A = ℕ} 0 1 = cc in omega arith)) (λ (u : j ≤ k). u) (cases_lt k j))
+    go : (o : Option ℕ) → Highest (pending_in d.pending p) o →
+        MatchOption o ((k : ℕ) → k < d.registers.count → pending_at (mask_device d).at p k ≡ false) (λ k. (k < d.registers.count) × (pending_at (mask_device d).at p k ≡ true) × ((j : ℕ) → j < d.registers.count → pending_at (mask_device d).at p j ≡ true → j ≤ k))
+    go None none = λ k l. sym (d.step p k (let m = d.registers.most in omega arith)) ∙ none k
+    go (Some k) found = let h = sym (d.step p k found.0) ∙ found.1 in (inside k h, h, λ j l g. ⊎_elim (λ (u : k < j). absurd (let f = found.2 j u in let s = d.step p j (let m = d.registers.most in omega arith) in let z : ◌≡◌ {A = ℕ} 0 1 = cc in omega arith)) (λ (u : j ≤ k). u) (cases_lt k j))

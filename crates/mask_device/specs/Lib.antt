@@ -1,3 +1,4 @@
+pub mod Highest
 pub mod Meaning
 pub mod Pending
 pub mod Sets

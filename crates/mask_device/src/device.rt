@@ -1,32 +1,19 @@
 // The mask device: entries, and beside them the pending registers of each priority, always in step.
-ghost use Rattle.std.specs.Prelude.{◌≡◌, ℕ, ◌<◌, ◌≤◌, length, take};
-ghost use Rattle.list_register.specs.Meaning.{Apart};
-ghost use Rattle.list_register.specs.Shown.{entry_of};
-ghost use Rattle.register_file.specs.Registers.{entries_of};
+ghost use Rattle.register_file.specs.There.{entries_in};
+ghost use Rattle.mask_device.specs.Pending.{pending_in};
 ghost use Rattle.mask_device.specs.Step.{InStep};
 
 use crate::pending::PendingSets;
-use interrupt::cpu_interface::CpuInterface;
 use list_register::entry::Entry;
-use list_register::stray::StrayCount;
+use register_file::registers::Registers;
+use register_file::settings::Settings;
 
 pub mod registers;
 
-// how many registers there are room for
-const ROOM: usize = 64;
-
 #[derive(Drop)]
 pub struct MaskDevice {
-    count: u8,
-    live: bool,
-    cpu: CpuInterface,
-    stray: StrayCount,
-    entries: [Entry; ROOM],
+    registers: Registers<Entry>,
+    settings: Settings,
     pending: PendingSets,
-    // what its type says, for the functions that only write to it
-    ghost sized: { length entries ≡ 64 },
-    ghost some: { 1 ≤ count },
-    ghost most: { count ≤ 64 },
-    ghost apart: { Apart (entries_of entry_of (take count entries)) },
-    ghost step: { InStep (take count entries) pending },
+    ghost step: { InStep (entries_in registers) (pending_in pending) },
 }

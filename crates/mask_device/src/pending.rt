@@ -5,12 +5,13 @@ ghost use Rattle.interrupt.specs.Sets.{some};
 ghost use Rattle.mask_device.specs.Sets.{in_set};
 
 use crate::register_set::RegisterSet;
+use interrupt::priority;
 use interrupt::priority_set::PrioritySet;
 
 mod changing;
 
-// how many priorities there are
-const LEVELS: usize = 32;
+// how many sets there are, one for each priority
+const LEVELS: usize = priority::LEVELS as usize;
 
 #[derive(Drop)]
 pub struct PendingSets {

@@ -1,7 +1,24 @@
 // A set of list registers, as a word of 64 bits.
-ghost use Rattle.std.specs.Prelude.{◌≡◌, ℕ, ◌<◌, true, false, not, MatchOption};
+ghost use Rattle.std.specs.Prelude.{◌≡◌, ◌<◌, true, false, not};
 ghost use Rattle.interrupt.specs.Sets.{put, some};
 ghost use Rattle.mask_device.specs.Sets.{registers_in};
+ghost use Rattle.mask_device.specs.Highest.{Highest};
+
+// Which of the 64 registers that a set may have.
+#[derive(Clone, Copy)]
+pub struct Place {
+    index: usize,
+    ghost within: { index < 64 },
+}
+
+impl Place {
+    pub(crate) fn new(index: usize) -> Place
+        requires { index < 64 }
+        ensures { result.index ≡ index }
+    {
+        Place { index }
+    }
+}
 
 #[derive(Clone, Copy)]
 pub struct RegisterSet {
@@ -9,38 +26,35 @@ pub struct RegisterSet {
 }
 
 impl RegisterSet {
+    #[tactic(auto, using(interrupt::proofs::Bits::no_member))]
     pub(crate) fn empty() -> RegisterSet
         ensures { registers_in result ≡ (λ _. false) }
     {
         RegisterSet { word: 0 }
     }
 
-    pub(crate) fn with(self, register: usize) -> RegisterSet
-        requires { register < 64 }
-        ensures { registers_in result ≡ put register true (registers_in self) }
+    pub(crate) fn with(self, register: Place) -> RegisterSet
+        ensures { registers_in result ≡ put register.index true (registers_in self) }
     {
         RegisterSet {
-            word: self.word | 1 << register,
+            word: self.word | 1 << register.index,
         }
     }
 
-    pub(crate) fn without(self, register: usize) -> RegisterSet
-        requires { register < 64 }
-        ensures { registers_in result ≡ put register false (registers_in self) }
+    pub(crate) fn without(self, register: Place) -> RegisterSet
+        ensures { registers_in result ≡ put register.index false (registers_in self) }
     {
         RegisterSet {
-            word: self.word & !(1 << register),
+            word: self.word & !(1 << register.index),
         }
     }
 
     // The highest register in the set.
     pub(crate) fn highest(self) -> Option<usize>
-        ensures { MatchOption result ((k : ℕ) → registers_in self k ≡ false) (λ k. (k < 64) × (registers_in self k ≡ true) × ((q : ℕ) → k < q → registers_in self q ≡ false)) }
+        ensures { Highest (registers_in self) result }
     {
-        if self.word == 0 {
-            return None;
-        }
-        Some(63 - self.word.leading_zeros() as usize)
+        let k = self.word.checked_ilog2()?;
+        Some(k as usize)
     }
 
     pub(crate) fn is_empty(self) -> bool

@@ -57,13 +57,14 @@ pub record Step (at new_at : ℕ → Interrupt) (xs ys : List ℕ) (rank new : �
   pub same : has n xs ≡ true → i.priority ≡ (at n).priority
   pub counted : now_active + one_if (at n).active ≡ active + one_if i.active
 
-pub own : (n : ℕ) (i : Interrupt) (at : ℕ → Interrupt) → put n i at n ≡ i
-own n i at = let t : eqb n n ≡ true = grind (arith, nat_tests) in rw t
+-- interrupt n is what it became
+pub own : (at new_at : ℕ → Interrupt) (n : ℕ) (i : Interrupt) → new_at ≡ put n i at → new_at n ≡ i
+own at new_at n i e = let t : eqb n n ≡ true = grind (arith, nat_tests) in rw e (rw t)
 
 pub step : (at new_at : ℕ → Interrupt) (xs ys : List ℕ) (rank new : ℕ → ℕ) (n : ℕ) (i : Interrupt) (active now_active : ℕ) →
     Step at new_at xs ys rank new n i active now_active → AllWait at xs → AtOwnPriority at xs rank → active ≡ count 1020 (λ m. (at m).active) → Fields new_at ys new now_active
 step at new_at xs ys rank new n i active now_active s w p c =
-    let at_n : new_at n ≡ i = ap (λ (f : ℕ → Interrupt). f n) s.became ∙ own n i at in
+    let at_n = own at new_at n i s.became in
     let list : ys ≡ settle n (waits i) xs = s.settled ∙ ap (λ (j : Interrupt). settle n (waits j) xs) at_n in
     let fields : Fields (put n i at) ys new now_active = (
       subst (AllWait (put n i at)) (sym list) (all_wait at xs n i w),

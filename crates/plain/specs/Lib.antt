@@ -1,5 +1,5 @@
-pub mod Changes
 pub mod Kept
 pub mod Meaning
 pub mod Sources
+pub mod Steps
 pub mod Table

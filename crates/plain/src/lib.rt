@@ -1,7 +1,6 @@
 // The plain guest: it answers from its own table.
 #![tactic(auto)]
 
-mod change;
 pub mod plain_guest;
 mod source;
 mod table;

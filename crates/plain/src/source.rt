@@ -1,18 +1,16 @@
 // One interrupt of the table.
-ghost use Rattle.std.specs.Prelude.{◌≡◌, true, false, not};
-ghost use Rattle.guest.specs.Interrupts.{pending, waits, at_rest, blank, with_setup, with_enabled, with_line, with_active, with_dropped, raised, taken, deactivated};
+ghost use Rattle.std.specs.Prelude.{◌≡◌, true, false, not, if◌then◌else◌};
+ghost use Rattle.std.specs.Fn.{FnOnceTakesAtMut, FnOnceReturnsAtMut};
+ghost use Rattle.guest.specs.Interrupts.{by_kind, pending, waits, at_rest, blank, with_setup, with_enabled, with_line, with_active, with_dropped, raised, taken, deactivated};
 ghost use Rattle.guest.specs.Calls.{ended};
-ghost use Rattle.plain.specs.Changes.{changed, flips};
 ghost use Rattle.plain.specs.Sources.{means};
-ghost use Rattle.plain.specs.declared.change.Change.TheVariants.{Configure, Lower};
 
-use crate::change::Change;
 use interrupt::cpu_interface::EoiMode;
 use interrupt::kind::Kind;
 use interrupt::priority::Priority;
 
-// Whether it is pending, active or both.
-#[derive(Clone, Copy)]
+// Whether it is pending, active or both. A type of its own: the states of a list register are numbers of a layout.
+#[derive(Clone, Copy, PartialEq, Eq)]
 pub enum State {
     Idle,
     Pending,
@@ -53,47 +51,36 @@ impl Source {
     pub(crate) fn waits(self) -> bool
         ensures { result ≡ waits (means self) }
     {
-        self.enabled && matches!(self.state, State::Pending)
+        self.enabled && self.state == State::Pending
     }
 
     // Not enabled, pending or active.
     pub(crate) fn at_rest(self) -> bool
         ensures { result ≡ at_rest (means self) }
     {
-        !self.enabled && matches!(self.state, State::Idle)
+        !self.enabled && self.state == State::Idle
     }
 
-    // Makes the change; true if that changed the flag that it sets.
-    pub(crate) fn change(&mut self, change: Change) -> bool
-        ensures after { means self.new ≡ changed change (means self.old) }
-        ensures value { result ≡ flips change (means self.old) }
+    // Takes the step; what it answers.
+    pub(crate) fn change<R, F: FnOnce(&mut Source) -> R>(&mut self, step: F) -> R
+        requires { FnOnceTakesAtMut F.FnOnce step self.old }
+        ensures { FnOnceReturnsAtMut F.FnOnce step self.old result self.new }
     {
-        match change {
-            Change::Configure(kind, priority) => self.configure(kind, priority),
-            Change::Enable => self.enable(),
-            Change::Disable => self.disable(),
-            Change::Raise => self.raise(),
-            Change::Lower => self.lower(),
-            Change::Acknowledge => self.acknowledge(),
-            Change::End(mode) => self.end(mode),
-            Change::Deactivate => self.deactivate(),
-        }
+        step(self)
     }
 
     // Sets kind and priority, if it is at rest.
-    fn configure(&mut self, kind: Kind, priority: Priority) -> bool
-        ensures after { means self.new ≡ changed (Configure kind priority) (means self.old) }
-        ensures value { result ≡ false }
+    pub(crate) fn configure(&mut self, kind: Kind, priority: Priority)
+        ensures { means self.new ≡ (if at_rest (means self.old) then with_setup kind priority.level (means self.old) else means self.old) }
     {
         if self.at_rest() {
             self.kind = kind;
             self.priority = priority;
         }
-        false
     }
 
     // Enables it; true if it was disabled.
-    fn enable(&mut self) -> bool
+    pub(crate) fn enable(&mut self) -> bool
         ensures after { means self.new ≡ with_enabled true (means self.old) }
         ensures value { result ≡ not (means self.old).enabled }
     {
@@ -103,7 +90,7 @@ impl Source {
     }
 
     // Disables it; true if it was enabled.
-    fn disable(&mut self) -> bool
+    pub(crate) fn disable(&mut self) -> bool
         ensures after { means self.new ≡ with_enabled false (means self.old) }
         ensures value { result ≡ (means self.old).enabled }
     {
@@ -113,7 +100,7 @@ impl Source {
     }
 
     // Becomes pending; true if it was not.
-    fn raise(&mut self) -> bool
+    pub(crate) fn raise(&mut self) -> bool
         ensures after { means self.new ≡ raised (means self.old) }
         ensures value { result ≡ not (pending (means self.old)) }
     {
@@ -131,9 +118,9 @@ impl Source {
     }
 
     // Clears the line of a level source; true if it was set. An edge source has none.
-    fn lower(&mut self) -> bool
-        ensures after { means self.new ≡ changed Lower (means self.old) }
-        ensures value { result ≡ flips Lower (means self.old) }
+    pub(crate) fn lower(&mut self) -> bool
+        ensures after { means self.new ≡ by_kind (means self.old).kind (means self.old) (with_line false (means self.old)) }
+        ensures value { result ≡ by_kind (means self.old).kind false (means self.old).line }
     {
         match (self.kind, self.state) {
             (Kind::Level, State::Pending) => {
@@ -149,38 +136,32 @@ impl Source {
     }
 
     // Becomes active; an edge source's latch is cleared, a level source's line stays.
-    fn acknowledge(&mut self) -> bool
-        ensures after { means self.new ≡ taken (means self.old) }
-        ensures value { result ≡ false }
+    pub(crate) fn acknowledge(&mut self)
+        ensures { means self.new ≡ taken (means self.old) }
     {
         self.state = match (self.state, self.kind) {
             (State::Idle | State::Active, _) => State::Active,
             (State::Pending | State::Both, Kind::Edge) => State::Active,
             (State::Pending | State::Both, Kind::Level) => State::Both,
         };
-        false
     }
 
     // Joined, it is no longer active; split, it is dropped.
-    fn end(&mut self, mode: EoiMode) -> bool
-        ensures after { means self.new ≡ ended mode (means self.old) }
-        ensures value { result ≡ false }
+    pub(crate) fn end(&mut self, mode: EoiMode)
+        ensures { means self.new ≡ ended mode (means self.old) }
     {
         match mode {
             EoiMode::Joined => self.leave_active(),
             EoiMode::Split => self.dropped = true,
         }
-        false
     }
 
     // No longer active or dropped.
-    fn deactivate(&mut self) -> bool
-        ensures after { means self.new ≡ deactivated (means self.old) }
-        ensures value { result ≡ false }
+    pub(crate) fn deactivate(&mut self)
+        ensures { means self.new ≡ deactivated (means self.old) }
     {
         self.dropped = false;
         self.leave_active();
-        false
     }
 
     fn leave_active(&mut self)

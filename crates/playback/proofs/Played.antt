@@ -2,54 +2,33 @@
 use Rattle.std.proofs.Common.{◌≡◌, ℕ, ◌≤◌, List, length, take, drop, Some, None, Ok, Err, Option, sym, refl, ap, ◌∙◌, arith}
 use Rattle.std.proofs.lemmas.List.{take_at}
 use Rattle.guest.specs.Book.{Book, start}
-use Rattle.trace.specs.declared.contents.Section.{Section}
 use Rattle.fault.specs.declared.Fault.{Fault}
-use Rattle.trace.specs.Contents.{setups_section, events_section}
 use Rattle.fault.specs.Faults.{◌else◌}
+use Rattle.trace.specs.Contents.{setups_section, events_section}
 use Rattle.trace.specs.Opening.{fault_of, events_in}
-use Rattle.report.specs.Playing.{setup_declined, after_setups}
-use Rattle.report.specs.Reporting.{placed_in, room_for, report_text, Reports}
-use Rattle.playback.specs.declared.failure.Failure.{Failure}
-use Rattle.playback.specs.declared.failure.Failure.TheVariants.{Faulty, Memory}
-use Rattle.playback.specs.Output.{fault_in, fault_or, report_in, output_of, Explains, Tells}
+use Rattle.trace.specs.Walking.{placed_in}
+use Rattle.report.specs.Playing.{setup_declined}
+use Rattle.report.specs.Reporting.{room_for, Reports}
+use Rattle.playback.specs.Output.{fault_in, report_in}
 
-module _ (file part : List ℕ) (setups events : Section) (b after : Book) (area left : List ℕ)
-    (opens : fault_of file ≡ None) (same : part ≡ file) (ss : setups ≡ setups_section file) (es : events ≡ events_section file) (new : b ≡ start) (room : room_for events ≤ length area) where
-  declined_same : setup_declined b (placed_in part setups) ≡ setup_declined start (placed_in file (setups_section file))
-  declined_same =
-      ap (λ (c : Book). setup_declined c (placed_in part setups)) new
-      ∙ ap (λ (f : List ℕ). setup_declined start (placed_in f setups)) same
-      ∙ ap (λ (s : Section). setup_declined start (placed_in file s)) ss
+module _ (file : List ℕ) (after : Book) (area left : List ℕ) (opens : fault_of file ≡ None) (room : room_for (events_section file) ≤ length area) where
+  -- the fault of a file that opens is that of a declined setup
+  fault_same : fault_in file ≡ setup_declined start (placed_in file (setups_section file))
+  fault_same = ap (λ (o : Option Fault). o else setup_declined start (placed_in file (setups_section file))) opens
 
-  text_same : report_text (after_setups b (placed_in part setups)) (events_in part events) ≡ report_in file
-  text_same =
-      ap (λ (c : Book). report_text (after_setups c (placed_in part setups)) (events_in part events)) new
-      ∙ ap (λ (f : List ℕ). report_text (after_setups start (placed_in f setups)) (events_in f events)) same
-      ∙ ap (λ (s : Section). report_text (after_setups start (placed_in file s)) (events_in file events)) ss
-      ∙ ap (λ (s : Section). report_text (after_setups start (placed_in file (setups_section file))) (events_in file s)) es
-
-  fault_same : fault_in file ≡ setup_declined b (placed_in part setups)
-  fault_same = ap (λ (o : Option Fault). o else setup_declined start (placed_in file (setups_section file))) opens ∙ sym declined_same
-
-  pub written : (n : ℕ) → Reports (room_for events) (placed_in part setups) (events_in part events) b after area left (Ok n) → (fault_in file ≡ None) × (take n left ≡ report_in file)
-  written n r = go (setup_declined b (placed_in part setups)) refl
+  pub written : (n : ℕ) → Reports (room_for (events_section file)) (placed_in file (setups_section file)) (events_in file (events_section file)) start after area left (Ok n) → (fault_in file ≡ None) × (take n left ≡ report_in file)
+  written n r = go (setup_declined start (placed_in file (setups_section file))) refl
     where
-      go : (o : Option Fault) → setup_declined b (placed_in part setups) ≡ o → (fault_in file ≡ None) × (take n left ≡ report_in file)
+      go : (o : Option Fault) → setup_declined start (placed_in file (setups_section file)) ≡ o → (fault_in file ≡ None) × (take n left ≡ report_in file)
       go (Some f) e = let c = (r.stopped f room e).0 in let z : ◌≡◌ {A = ℕ} 0 1 = cc in absurd (omega arith)
       go None e =
           let d = r.done room e in
-          let l : n ≡ length (report_text (after_setups b (placed_in part setups)) (events_in part events)) = let k = d.0 in cc in
-          let t = report_text (after_setups b (placed_in part setups)) (events_in part events) in
-          (fault_same ∙ e, ap (take n) d.2 ∙ take_at t (drop (length t) area) n (sym l) ∙ text_same)
+          let l : n ≡ length (report_in file) = let k = d.0 in cc in
+          (fault_same ∙ e, ap (take n) d.2 ∙ take_at (report_in file) (drop (length (report_in file)) area) n (sym l))
 
-  pub stopped : (f : Fault) → Reports (room_for events) (placed_in part setups) (events_in part events) b after area left (Err f) → fault_in file ≡ Some f
-  stopped f r = go (setup_declined b (placed_in part setups)) refl
+  pub stopped : (f : Fault) → Reports (room_for (events_section file)) (placed_in file (setups_section file)) (events_in file (events_section file)) start after area left (Err f) → fault_in file ≡ Some f
+  stopped f r = go (setup_declined start (placed_in file (setups_section file))) refl
     where
-      go : (o : Option Fault) → setup_declined b (placed_in part setups) ≡ o → fault_in file ≡ Some f
+      go : (o : Option Fault) → setup_declined start (placed_in file (setups_section file)) ≡ o → fault_in file ≡ Some f
       go (Some g) e = let c = (r.stopped g room e).0 in fault_same ∙ e ∙ (let q : g ≡ f = cc in ap Some q)
       go None e = let c = (r.done room e).0 in let z : ◌≡◌ {A = ℕ} 0 1 = cc in absurd (omega arith)
-
--- the line of the failure is the output
-pub told : (file text : List ℕ) (e : Failure) → Explains file e → Tells e text → text ≡ output_of file
-told file text (Faulty f) h t = t ∙ sym (ap (λ (o : Option Fault). fault_or o (report_in file)) h)
-told file text Memory h t = absurd t

@@ -1,20 +1,19 @@
 -- What `run` writes for a file.
-use Rattle.std.specs.Prelude.{◌≡◌, ℕ, List, [], ◌∷◌, ◌++◌, Some, None, codes, decimal, Option}
-use Rattle.refusal.specs.Numbers.{refusal_number}
+use Rattle.std.specs.Prelude.{◌≡◌, ℕ, List, [], ◌∷◌, ◌++◌, Some, None, Option}
 use Rattle.guest.specs.Book.{start}
 use Rattle.fault.specs.declared.Fault.{Fault}
 use Rattle.trace.specs.Contents.{setups_section, events_section}
-use Rattle.fault.specs.Faults.{layer_number, ◌else◌}
+use Rattle.fault.specs.Faults.{fault_text, ◌else◌}
 use Rattle.trace.specs.Opening.{fault_of, events_in}
 use Rattle.playback.specs.declared.failure.Failure.{Failure}
 use Rattle.playback.specs.declared.failure.Failure.TheVariants.{Faulty, Memory}
 use Rattle.report.specs.Playing.{setup_declined, after_setups}
-use Rattle.report.specs.Reporting.{placed_in, report_text}
+use Rattle.trace.specs.Walking.{placed_in}
+use Rattle.report.specs.Reporting.{report_text}
 
--- `fault layer cause place`
+-- `fault layer cause place`, and the line's end
 abbrev pub fault_line : Fault → List ℕ
-fault_line f =
-    codes "fault " ++ (decimal (layer_number f.layer) ++ (codes " " ++ (decimal (refusal_number f.cause) ++ (codes " " ++ (decimal f.place ++ (10 ∷ []))))))
+fault_line f = fault_text f ++ (10 ∷ [])
 
 -- the fault of the file, or else of the first setup that a new guest declines
 abbrev pub fault_in : List ℕ → Option Fault

@@ -5,7 +5,7 @@ ghost use Rattle.playback.specs.declared.failure.Failure.TheVariants.{Faulty, Me
 use fault::Fault;
 use std::alloc::AllocError;
 
-#[derive(Clone, Copy)]
+#[derive(Clone, Copy, Debug, PartialEq, Eq)]
 pub enum Failure {
     Faulty(Fault),
     Memory,

@@ -1,12 +1,11 @@
 // The output for a file.
 ghost use Rattle.std.specs.Prelude.{◌≡◌, IfOk, None, MatchResult};
-ghost use Rattle.playback.specs.Output.{fault_line, fault_in, report_in, output_of, Explains, Tells};
+ghost use Rattle.playback.specs.Output.{fault_in, report_in, output_of, Explains, Tells};
 
 use crate::failure::Failure;
-use fault::Fault;
 use guest::interface::Guest;
 use plain::plain_guest::PlainGuest;
-use report::report::report;
+use report::report::{report, room};
 use std::alloc::{AllocError, Global};
 use trace::reader::Trace;
 
@@ -14,10 +13,7 @@ use trace::reader::Trace;
 pub fn output(heap: Global, file: &[u8]) -> Result<Vec<u8>, AllocError>
     ensures { IfOk result (λ v. v.items ≡ output_of file.now) }
 {
-    match play(heap, file) {
-        Ok(text) => Ok(text),
-        Err(failure) => failure_text(heap, failure),
-    }
+    play(heap, file).or_else(|failure| failure_text(heap, failure))
 }
 
 // The line of a fault. Want of memory has none.
@@ -25,7 +21,7 @@ fn failure_text(heap: Global, failure: Failure) -> Result<Vec<u8>, AllocError>
     ensures { IfOk result (λ v. Tells failure v.items) }
 {
     match failure {
-        Failure::Faulty(fault) => fault_text(heap, fault),
+        Failure::Faulty(fault) => Ok(format!(in heap; "{fault}\n")?.into_bytes()),
         Failure::Memory => Err(AllocError),
     }
 }
@@ -35,19 +31,9 @@ fn play(heap: Global, file: &[u8]) -> Result<Vec<u8>, Failure>
     ensures { MatchResult result (λ v. (fault_in file.now ≡ None) × (v.items ≡ report_in file.now)) (λ e. Explains file.now e) }
 {
     let trace = Trace::open(file)?;
-    let mut area = vec![in heap; 0u8; 20 * (trace.events.count as usize + 1)]?;
+    let mut area = vec![in heap; 0u8; room(&trace)]?;
     let mut guest = PlainGuest::new();
     let used = report(&mut guest, &trace, area.as_mut_slice())?;
     area.truncate(used);
     Ok(area)
-}
-
-// `fault layer cause place`.
-fn fault_text(heap: Global, fault: Fault) -> Result<Vec<u8>, AllocError>
-    ensures { IfOk result (λ v. v.items ≡ fault_line fault) }
-{
-    let layer = fault.layer.number();
-    let cause = fault.cause.number();
-    let place = fault.place;
-    Ok(format!(in heap; "fault {layer} {cause} {place}\n")?.into_bytes())
 }

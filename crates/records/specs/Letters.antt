@@ -1,17 +1,12 @@
 -- The letters of events, and the call that each asks for.
 use Rattle.std.specs.Prelude.{ℕ, Bool, cond, ◌&&◌, Some, None, Option, ◌==◌, nat_lt}
-use Rattle.interrupt.specs.declared.cpu_interface.EoiMode.{EoiMode}
-use Rattle.interrupt.specs.declared.cpu_interface.EoiMode.TheVariants.{Joined, Split}
+use Rattle.interrupt.specs.Cpu.{mode_of_bit}
 use Rattle.guest.specs.declared.call.Call.{Call}
 use Rattle.guest.specs.declared.call.Call.TheVariants.{Enable, Disable, Raise, Lower, Mask, Open, Mode, Acknowledge, End, Deactivate, Park, Resume}
 
 -- the call, where the fields that it does not use are zero and a field of 0 or 1 is no more
 abbrev pub asks : Bool → Call → Option Call
 asks right call = cond right (Some call) None
-
--- 0 is joined, 1 split
-abbrev pub mode_of : ℕ → EoiMode
-mode_of aux = cond (aux == 1) Split Joined
 
 -- the call of an event with this letter, aux byte and number or word, or none
 abbrev pub call_of : ℕ → ℕ → ℕ → Option Call
@@ -25,7 +20,7 @@ call_of letter aux number =
     (cond (letter == 68) (asks (aux == 0) (Deactivate number))  -- D
     (cond (letter == 77) (asks (number == 0) (Mask aux))  -- M
     (cond (letter == 73) (asks (nat_lt aux 2 && number == 0) (Open (aux == 1)))  -- I
-    (cond (letter == 86) (asks (nat_lt aux 2 && number == 0) (Mode (mode_of aux)))  -- V
+    (cond (letter == 86) (asks (nat_lt aux 2 && number == 0) (Mode (mode_of_bit (aux == 1))))  -- V: 0 is joined, 1 split
     (cond (letter == 80) (asks (aux == 0 && number == 0) Park)  -- P
     (cond (letter == 81) (asks (aux == 0 && number == 0) Resume)  -- Q
     None)))))))))))

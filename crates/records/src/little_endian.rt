@@ -5,7 +5,7 @@ ghost use Rattle.records.specs.Bytes.{byte, le16, le32};
 pub fn byte_at(bytes: &[u8], i: usize) -> u8
     ensures { result ≡ byte bytes.now i }
 {
-    if i < bytes.len() { bytes[i] } else { 0 }
+    bytes.get(i).copied().unwrap_or(0)
 }
 
 // The number of 16 bits at a place.

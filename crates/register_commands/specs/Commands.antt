@@ -1,5 +1,6 @@
 -- Which command a line is.
 use Rattle.std.specs.Prelude.{ℕ, cond, List, [], ◌∷◌, Some, None, codes, Option}
+use Rattle.std.specs.Option.{option_map, option_and_then}
 use Rattle.std.specs.Str.{bytes_eq}
 use Rattle.console.specs.Numbers.{number}
 use Rattle.register_commands.specs.declared.command.Name.{Name}
@@ -18,56 +19,34 @@ name_of w =
     (cond (bytes_eq w (codes "deactivate")) (Some Deactivate)
     (cond (bytes_eq w (codes "line")) (Some Line) None))))))
 
--- a command without a number, with one, and with two
+-- out of the words after its name: a command without a number, with one, and with two
 
-abbrev pub alone : Name → Option Command
-alone New = None
-alone Read = None
-alone Write = None
-alone Acknowledge = Some acknowledge
-alone End = None
-alone Deactivate = None
-alone Line = Some line
+abbrev pub takes_none : Command → List (List ℕ) → Option Command
+takes_none command [] = Some command
+takes_none command (w ∷ ws) = None
 
-abbrev pub with_one : Name → ℕ → Option Command
-with_one New a = Some (new a)
-with_one Read a = Some (read a)
-with_one Write a = None
-with_one Acknowledge a = None
-with_one End a = Some (end a)
-with_one Deactivate a = Some (deactivate a)
-with_one Line a = None
+abbrev pub takes_one : (ℕ → Command) → List (List ℕ) → Option Command
+takes_one command [] = None
+takes_one command (a ∷ []) = option_map command (number a)
+takes_one command (a ∷ b ∷ ws) = None
 
-abbrev pub with_two : Name → ℕ → ℕ → Option Command
-with_two New a b = None
-with_two Read a b = None
-with_two Write a b = Some (write a b)
-with_two Acknowledge a b = None
-with_two End a b = None
-with_two Deactivate a b = None
-with_two Line a b = None
+abbrev pub takes_two : (ℕ → ℕ → Command) → List (List ℕ) → Option Command
+takes_two command [] = None
+takes_two command (a ∷ []) = None
+takes_two command (a ∷ b ∷ []) = option_and_then (λ n. option_map (command n) (number b)) (number a)
+takes_two command (a ∷ b ∷ c ∷ ws) = None
 
--- of words that may be no name or no number
-
-abbrev pub if_alone : Option Name → Option Command
-if_alone None = None
-if_alone (Some n) = alone n
-
-abbrev pub if_one : Option Name → Option ℕ → Option Command
-if_one None a = None
-if_one (Some n) None = None
-if_one (Some n) (Some a) = with_one n a
-
-abbrev pub if_two : Option Name → Option ℕ → Option ℕ → Option Command
-if_two None a b = None
-if_two (Some n) None b = None
-if_two (Some n) (Some a) None = None
-if_two (Some n) (Some a) (Some b) = with_two n a b
+-- the command of a name and the words after it
+abbrev pub named : Name → List (List ℕ) → Option Command
+named New = takes_one new
+named Read = takes_one read
+named Write = takes_two write
+named Acknowledge = takes_none acknowledge
+named End = takes_one end
+named Deactivate = takes_one deactivate
+named Line = takes_none line
 
 -- the command that the words of a line are, if they are one
 abbrev pub command_of : List (List ℕ) → Option Command
 command_of [] = None
-command_of (name ∷ []) = if_alone (name_of name)
-command_of (name ∷ a ∷ []) = if_one (name_of name) (number a)
-command_of (name ∷ a ∷ b ∷ []) = if_two (name_of name) (number a) (number b)
-command_of (name ∷ a ∷ b ∷ c ∷ ws) = None
+command_of (name ∷ ws) = option_and_then (λ n. named n ws) (name_of name)

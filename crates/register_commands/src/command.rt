@@ -1,12 +1,15 @@
 // A command, out of the words of a line.
 ghost use Rattle.std.specs.Prelude.{◌≡◌};
+ghost use Rattle.std.specs.List.{find};
+ghost use Rattle.std.specs.Option.{option_map};
+ghost use Rattle.std.specs.Str.{bytes_eq};
 ghost use Rattle.console.specs.Words.{words};
-ghost use Rattle.register_commands.specs.Commands.{name_of, alone, with_one, with_two, command_of};
+ghost use Rattle.register_commands.specs.Commands.{name_of, command_of};
 
 use console::number::read_number;
-use console::words::{Words, split_line, word_is};
+use console::words::{split_line, word_is};
 
-#[derive(Clone, Copy)]
+#[derive(Clone, Copy, PartialEq, Eq)]
 pub enum Command {
     // a new device with this many registers, in place of the old one
     New(u32),
@@ -22,7 +25,7 @@ pub enum Command {
 }
 
 // The first word of a command.
-#[derive(Clone, Copy)]
+#[derive(Clone, Copy, PartialEq, Eq)]
 pub enum Name {
     New,
     Read,
@@ -33,73 +36,49 @@ pub enum Name {
     Line,
 }
 
+// The names, and the words that write them.
+const NAMES: [(&str, Name); 7] = [
+    ("new", Name::New),
+    ("read", Name::Read),
+    ("write", Name::Write),
+    ("acknowledge", Name::Acknowledge),
+    ("end", Name::End),
+    ("deactivate", Name::Deactivate),
+    ("line", Name::Line),
+];
+
 // The command in a line, if it is one.
 pub fn read_command(line: &[u8]) -> Option<Command>
     ensures { result ≡ command_of (words line.now) }
 {
-    match split_line(line) {
-        Words::One(name) => command_alone(read_name(name)?),
-        Words::Two(name, a) => command_with_one(read_name(name)?, read_number(a)?),
-        Words::Three(name, a, b) => {
-            command_with_two(read_name(name)?, read_number(a)?, read_number(b)?)
+    let mut words = split_line(line);
+    let name = read_name(words.next()?)?;
+    match (name, words.next(), words.next(), words.next()) {
+        (Name::New, Some(count), None, _) => Some(Command::New(read_number(count)?)),
+        (Name::Read, Some(offset), None, _) => Some(Command::Read(read_number(offset)?)),
+        (Name::Write, Some(offset), Some(word), None) => {
+            Some(Command::Write(read_number(offset)?, read_number(word)?))
         }
-        Words::Empty | Words::Four(_, _, _, _) | Words::More => None,
+        (Name::Acknowledge, None, _, _) => Some(Command::Acknowledge),
+        (Name::End, Some(word), None, _) => Some(Command::End(read_number(word)?)),
+        (Name::Deactivate, Some(word), None, _) => Some(Command::Deactivate(read_number(word)?)),
+        (Name::Line, None, _, _) => Some(Command::Line),
+        _ => None,
     }
 }
 
 fn read_name(word: &[u8]) -> Option<Name>
     ensures { result ≡ name_of word.now }
 {
-    if word_is(word, "new") {
-        Some(Name::New)
-    } else if word_is(word, "read") {
-        Some(Name::Read)
-    } else if word_is(word, "write") {
-        Some(Name::Write)
-    } else if word_is(word, "acknowledge") {
-        Some(Name::Acknowledge)
-    } else if word_is(word, "end") {
-        Some(Name::End)
-    } else if word_is(word, "deactivate") {
-        Some(Name::Deactivate)
-    } else if word_is(word, "line") {
-        Some(Name::Line)
-    } else {
-        None
-    }
+    look_up(&NAMES, word)
 }
 
-// A command without a number.
-fn command_alone(name: Name) -> Option<Command>
-    ensures { result ≡ alone name }
+// The name that is written by this word.
+fn look_up(names: &[(&str, Name)], word: &[u8]) -> Option<Name>
+    ensures { result ≡ option_map (λ row. row.1) (find (λ row. bytes_eq word.now row.0.now) names.now) }
 {
-    match name {
-        Name::Acknowledge => Some(Command::Acknowledge),
-        Name::Line => Some(Command::Line),
-        Name::New | Name::Read | Name::Write | Name::End | Name::Deactivate => None,
-    }
-}
-
-// A command with one number.
-fn command_with_one(name: Name, a: u32) -> Option<Command>
-    ensures { result ≡ with_one name a }
-{
-    match name {
-        Name::New => Some(Command::New(a)),
-        Name::Read => Some(Command::Read(a)),
-        Name::End => Some(Command::End(a)),
-        Name::Deactivate => Some(Command::Deactivate(a)),
-        Name::Write | Name::Acknowledge | Name::Line => None,
-    }
-}
-
-// A command with two numbers.
-fn command_with_two(name: Name, a: u32, b: u32) -> Option<Command>
-    ensures { result ≡ with_two name a b }
-{
-    match name {
-        Name::Write => Some(Command::Write(a, b)),
-        Name::New | Name::Read | Name::Acknowledge | Name::End | Name::Deactivate | Name::Line =>
-            None,
-    }
+    names
+        .iter()
+        .find(|(text, _)| word_is(word, text))
+        .map(|(_, name)| *name)
 }

@@ -28,18 +28,18 @@ part_at ws o j k h =
 
 -- a part that has the registers from b on, as far as they go and no more than 32 of them
 pub status : (d : RegisterDevice) (view : List ListWord) (o j b : ℕ) → View d view →
-    ((k : ℕ) → k < length (take j (drop o view)) → (k < j) × (o + k ≡ b + k) × (b + k < d.count)) → length (take j (drop o view)) ≤ 32 → ((k : ℕ) → length (take j (drop o view)) ≤ k → k < 32 → d.count ≤ b + k) →
+    ((k : ℕ) → k < length (take j (drop o view)) → (k < j) × (o + k ≡ b + k) × (b + k < d.list.count)) → length (take j (drop o view)) ≤ 32 → ((k : ℕ) → length (take j (drop o view)) ≤ k → k < 32 → d.list.count ≤ b + k) →
     word_of (length (take j (drop o view))) (empties (take j (drop o view))) ≡ word_of 32 (λ k. free (register_device d) (b + k))
 status d view o j b v inside few outside =
     word_same (length (take j (drop o view))) _ _ (λ k l. here k (inside k l)) ∙ word_wider (length (take j (drop o view))) 32 (λ k. free (register_device d) (b + k)) few (λ k l m. there k (outside k l m))
   where
-    here : (k : ℕ) → (k < j) × (o + k ≡ b + k) × (b + k < d.count) → empties (take j (drop o view)) k ≡ free (register_device d) (b + k)
+    here : (k : ℕ) → (k < j) × (o + k ≡ b + k) × (b + k < d.list.count) → empties (take j (drop o view)) k ≡ free (register_device d) (b + k)
     here k h =
-        let t : ltb (b + k) d.count ≡ true = let u = h.2 in grind (arith, nat_tests) in
+        let t : ltb (b + k) d.list.count ≡ true = let u = h.2 in grind (arith, nat_tests) in
         ap (λ (e : Entry). not (is_valid e.state)) (part_at view o j k h.0 ∙ ap (entries_of held_in view) h.1 ∙ ap (λ (ws : List ListWord). entries_of held_in ws (b + k)) v.value) ∙ sym (rw t refl)
 
-    there : (k : ℕ) → d.count ≤ b + k → free (register_device d) (b + k) ≡ false
-    there k h = let t : ltb (b + k) d.count ≡ false = grind (arith, nat_tests) in rw t refl
+    there : (k : ℕ) → d.list.count ≤ b + k → free (register_device d) (b + k) ≡ false
+    there k h = let t : ltb (b + k) d.list.count ≡ false = grind (arith, nat_tests) in rw t refl
 
 pub status_low : (d : RegisterDevice) (view : List ListWord) (j : ℕ) → View d view → j ≡ min (length view) 32 →
     word_of (length (take (j - 0) (drop 0 view))) (empties (take (j - 0) (drop 0 view))) ≡ word_of 32 (free (register_device d))
@@ -54,7 +54,7 @@ pub status_high : (d : RegisterDevice) (view : List ListWord) (o : ℕ) → View
 status_high d view o v e =
     let long : length (take (length view - o) (drop o view)) ≡ length view - o = length-take (length view - o) (drop o view) ∙ (let r = length-drop o view in omega arith) in
     let n = v.len in
-    let m = d.most in
+    let m = d.list.most in
     status d view o (length view - o) 32 v (λ k h. (omega arith, omega arith, omega arith)) (omega arith) (λ k h l. omega arith)
 
 -- the ones of both words

@@ -1,5 +1,3 @@
 pub mod Choosing
 pub mod Empties
 pub mod Looking
-pub mod Settled
-pub mod Ranges

@@ -1,19 +1,18 @@
 -- What a register device means.
-use Rattle.std.specs.Prelude.{ℕ, ◌≤◌, take}
+use Rattle.std.specs.Prelude.{ℕ, ◌≤◌}
 use Rattle.interrupt.specs.Meaning.{members}
 use Rattle.list_register.specs.Meaning.{Meaning}
-use Rattle.register_file.specs.Registers.{entries_of}
+use Rattle.register_file.specs.There.{entries_in}
 use Rattle.layout.specs.Layouts.{control_live, control_stray, machine_mask, machine_mode, machine_open}
 use Rattle.register_device.specs.declared.device.RegisterDevice.{RegisterDevice}
-use Rattle.register_device.specs.Words.{held_in}
 
 abbrev pub register_device : RegisterDevice → Meaning
 register_device d = record {
-  count = d.count;
+  count = d.list.count;
   live = control_live d.control.word;
   cpu = record { opened = machine_open d.machine.word; mask = machine_mask d.machine.word; mode = machine_mode d.machine.word; active = members d.active };
   stray = control_stray d.control.word;
-  at = entries_of held_in (take d.count d.list);
+  at = entries_in d.list;
 }
 
 -- the register that is preferred among equals: the lower one

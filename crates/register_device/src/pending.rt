@@ -1,15 +1,13 @@
 // The pending registers, looked at one by one.
-ghost use Rattle.std.specs.Prelude.{◌≡◌, ℕ, ◌<◌, ◌≤◌, true, false, length, MatchOption};
+ghost use Rattle.std.specs.Prelude.{◌≡◌, ℕ, ◌<◌, length, position};
 ghost use Rattle.interrupt.specs.Meaning.{members};
 ghost use Rattle.interrupt.specs.Sets.{some};
-ghost use Rattle.list_register.specs.Shown.{entry_of};
 ghost use Rattle.register_file.specs.Registers.{entries_of, pending_entry, pending_at};
 ghost use Rattle.register_device.specs.Words.{held_in};
 
 use interrupt::priority::Priority;
 use interrupt::priority_set::PrioritySet;
 use layout::list_word::ListWord;
-use list_register::entry::Entry;
 use register_file::search::ListRegister;
 
 // The priorities at which a register is pending.
@@ -28,18 +26,14 @@ pub(crate) fn pending_levels(list: &[ListWord]) -> PrioritySet
 
 // The lowest register that is pending at this priority.
 pub(crate) fn first_pending(list: &[ListWord], priority: Priority) -> Option<usize>
-    ensures { MatchOption result ((k : ℕ) → k < length list.now → pending_at (entries_of held_in list.now) priority.level k ≡ false) (λ k. (k < length list.now) × (pending_at (entries_of held_in list.now) priority.level k ≡ true) × ((j : ℕ) → j < k → pending_at (entries_of held_in list.now) priority.level j ≡ false)) }
+    ensures { result ≡ position (λ w. pending_entry (held_in w) priority.level) list.now }
 {
-    for (k, word) in list.iter().enumerate() {
-        if is_pending_at((*word).entry(), priority) {
-            return Some(k);
-        }
-    }
-    None
+    list.iter().position(|word| is_pending_at(*word, priority))
 }
 
-fn is_pending_at(entry: Entry, priority: Priority) -> bool
-    ensures { result ≡ pending_entry (entry_of entry) priority.level }
+fn is_pending_at(word: ListWord, priority: Priority) -> bool
+    ensures { result ≡ pending_entry (held_in word) priority.level }
 {
-    entry.state.is_pending() && entry.priority.level() == priority.level()
+    let entry = word.entry();
+    entry.state.is_pending() && entry.priority == priority
 }

@@ -5,7 +5,7 @@ use Rattle.std.proofs.lemmas.Bool.Decides.{nat_tests}
 use Rattle.interrupt.specs.Sets.{put}
 use Rattle.list_register.specs.declared.state.State.{State}
 use Rattle.list_register.specs.declared.state.State.TheVariants.{Empty, Pending, Active, Both}
-use Rattle.list_register.specs.Entries.{Entry, nothing, is_valid, is_pending, inactive, with_state, holds, twins}
+use Rattle.list_register.specs.Entries.{Entry, nothing, is_valid, is_pending, with_state, holds, twins}
 use Rattle.list_register.specs.Meaning.{Apart}
 use Rattle.register_file.specs.Registers.{Alone}
 
@@ -32,12 +32,6 @@ alone_kept k e at apart same was j h =
 -- and so where a register goes to another state, and an empty one to none
 pub alone_with_state : (k : ℕ) (s : State) (at : ℕ → Entry) → Apart at → (is_valid s ≡ true → is_valid (at k).state ≡ true) → Alone k (with_state s (at k)) at
 alone_with_state k s at apart was = alone_kept k (with_state s (at k)) at apart refl was
-
-pub valid_inactive : (s : State) → is_valid (inactive s) ≡ true → is_valid s ≡ true
-valid_inactive Empty h = h
-valid_inactive Pending h = h
-valid_inactive Active h = refl
-valid_inactive Both h = refl
 
 pub valid_pending : (s : State) → is_pending s ≡ true → is_valid s ≡ true
 valid_pending Empty h = h

@@ -2,13 +2,12 @@
 use Rattle.std.proofs.Common.{◌≡◌, ℕ, ◌<◌, ◌≤◌, Bool, true, false, ◌&&◌, eqb, is_some, Some, None, Option, sym, refl, ap, ◌∙◌, subst, ⊎_elim, arith, MatchOption}
 use Rattle.std.proofs.lemmas.Bool.{cases_lt}
 use Rattle.std.proofs.lemmas.Bool.Decides.{nat_tests}
-use Rattle.interrupt.specs.Cpu.{admits, first_admitted, with_active_set}
-use Rattle.interrupt.specs.Sets.{put, some, lowest}
+use Rattle.interrupt.specs.Cpu.{admits, first_admitted}
+use Rattle.interrupt.specs.Sets.{some, lowest}
 use Rattle.interrupt.proofs.Lowest.{some_none, some_at, some_found, lowest_of}
 use Rattle.interrupt.proofs.Urgency.{admits_less, first_some, first_none}
-use Rattle.list_register.specs.declared.state.State.TheVariants.{Active}
-use Rattle.list_register.specs.Entries.{Entry, is_pending, is_valid, with_state}
-use Rattle.list_register.specs.Meaning.{Meaning, Apart, with_cpu, with_entry}
+use Rattle.list_register.specs.Entries.{Entry, is_pending, is_valid}
+use Rattle.list_register.specs.Meaning.{Meaning, Apart}
 use Rattle.list_register.specs.Calls.{ready, line_up, Pick, taken, Acknowledges}
 use Rattle.register_file.specs.Registers.{pending_at}
 use Rattle.register_file.specs.Picking.{Chosen, Prefers}
@@ -91,9 +90,9 @@ chosen before m levels p None h e none = absurd (let a = some_none m.count (pend
 chosen before m levels p (Some k) h e found = (picked m levels p k h e found.0 found.1, λ j pick. found.2 j pick.within (pending_pick m levels p j h e pick))
 
 -- whether any is ready, by the choice
-pub ready_chosen : (before : ℕ → ℕ → Type 0) (m : Meaning) (o : Option ℕ) → Chosen before m o → some m.count (ready m) ≡ is_some o
-ready_chosen before m None h = h
-ready_chosen before m (Some k) h = some_at m.count (ready m) k h.0.within h.0.can
+pub ready_chosen : (before : ℕ → ℕ → Type 0) (m : Meaning) (o : Option ℕ) (r : Bool) → Chosen before m o → r ≡ is_some o → r ≡ some m.count (ready m)
+ready_chosen before m None r h e = e ∙ sym h
+ready_chosen before m (Some k) r h e = e ∙ sym (some_at m.count (ready m) k h.0.within h.0.can)
 
 -- what is chosen is valid
 pub valid_chosen : (before : ℕ → ℕ → Type 0) (m : Meaning) (k : ℕ) → Chosen before m (Some k) → is_valid (m.at k).state ≡ true
@@ -121,21 +120,9 @@ acknowledges_one m k live pick = record { down = λ f. absurd (let u = up in let
     up : line_up m ≡ true
     up = let r = some_at m.count (ready m) k pick.within pick.can in rw live r
 
--- register k, which holds e, was chosen and is taken
-pub record Taken (before : ℕ → ℕ → Type 0) (m : Meaning) (e : Entry) (after : Meaning) : Type 0 where
-  pub does : Acknowledges m (Some e.number) after
-  pub prefers : Prefers before m (Some e.number)
+-- register k was chosen and is taken, and its number answered
+pub taken_does : (before : ℕ → ℕ → Type 0) (m : Meaning) (k n : ℕ) (after : Meaning) → m.live ≡ true → Chosen before m (Some k) → n ≡ (m.at k).number → after ≡ taken k m → Acknowledges m (Some n) after
+taken_does before m k n after live h same left = rw (same, left) (acknowledges_one m k live h.0)
 
-pub taken_one : (before : ℕ → ℕ → Type 0) (m : Meaning) (k : ℕ) (e : Entry) (active : ℕ → Bool) (after : Meaning) → m.live ≡ true → Apart m.at → Chosen before m (Some k) → e ≡ m.at k →
-    active ≡ put e.priority true m.cpu.active → after ≡ with_entry k (with_state Active (m.at k)) (with_cpu (with_active_set active m.cpu) m) → Taken before m e after
-taken_one before m k e active after live apart h same added left =
-    let number : (m.at k).number ≡ e.number = ap (λ (d : Entry). d.number) (sym same) in
-    let as_taken : after ≡ taken k m =
-    left ∙ ap (λ (a : ℕ → Bool). with_entry k (with_state Active (m.at k)) (with_cpu (with_active_set a m.cpu) m)) (added ∙ ap (λ (d : Entry). put d.priority true m.cpu.active) same) in
-    let does_so : Meaning → Type 0 = λ n. Acknowledges m (Some (m.at k).number) n in
-    let answers : ℕ → Type 0 = λ n. Acknowledges m (Some n) after in
-    let prefers_so : ℕ → Type 0 = λ n. Prefers before m (Some n) in
-    record {
-      does = subst answers number (subst does_so (sym as_taken) (acknowledges_one m k live h.0));
-      prefers = subst prefers_so number (prefers_chosen before m k apart h);
-    }
+pub taken_prefers : (before : ℕ → ℕ → Type 0) (m : Meaning) (k n : ℕ) → Apart m.at → Chosen before m (Some k) → n ≡ (m.at k).number → Prefers before m (Some n)
+taken_prefers before m k n apart h same = rw same (prefers_chosen before m k apart h)

@@ -1,3 +1,4 @@
 pub mod Picking
 pub mod Registers
 pub mod Settings
+pub mod There

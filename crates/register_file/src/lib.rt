@@ -2,6 +2,7 @@
 #![tactic(auto)]
 
 pub mod file;
+pub mod registers;
 pub mod search;
 pub mod settings;
 pub mod steps;

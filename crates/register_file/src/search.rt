@@ -1,8 +1,9 @@
 // Looking for an interrupt's register.
-ghost use Rattle.std.specs.Prelude.{◌≡◌, length};
+ghost use Rattle.std.specs.Prelude.{◌≡◌, position};
 ghost use Rattle.list_register.specs.Entries.{Entry as Meant, holds};
-ghost use Rattle.register_file.specs.Registers.{Finds, entries_of};
+ghost use Rattle.list_register.specs.declared.entry.Entry.{Entry as TypedEntry};
 ghost use Rattle.list_register.specs.Shown.{entry_of};
+ghost use Rattle.std.proofs.Common.{ap};
 
 use list_register::entry::Entry;
 
@@ -14,6 +15,11 @@ pub trait ListRegister: Copy {
         ensures { entry_of result ≡ held self };
 }
 
+// One that can be made of an entry, and then holds it.
+pub trait MadeOfEntry: ListRegister + From<Entry> {
+    ghost made: { (e : TypedEntry) (r : Self) → Self.from_gives e r → Self.held r ≡ entry_of e };
+}
+
 impl ListRegister for Entry {
     ghost held = { entry_of };
 
@@ -22,21 +28,23 @@ impl ListRegister for Entry {
     }
 }
 
-// The first valid register with this number.
-pub fn holder<R: ListRegister>(registers: &[R], number: u32) -> Option<usize>
-    ensures { Finds (length registers.now) (entries_of R.ListRegister.held registers.now) number result }
-{
-    for (k, register) in registers.iter().enumerate() {
-        if holds_number((*register).entry(), number) {
-            return Some(k);
-        }
-    }
-    None
+impl MadeOfEntry for Entry {
+    ghost made = { λ e r same. ap entry_of same };
 }
 
-// Whether it is valid and has this number.
-fn holds_number(entry: Entry, number: u32) -> bool
-    ensures { result ≡ holds number (entry_of entry) }
+// The first valid register with this number.
+pub fn holder<R: ListRegister>(registers: &[R], number: u32) -> Option<usize>
+    ensures { result ≡ position (λ r. holds number (R.ListRegister.held r)) registers.now }
 {
+    registers
+        .iter()
+        .position(|register| holds_number(*register, number))
+}
+
+// Whether its entry is valid and has this number.
+fn holds_number<R: ListRegister>(register: R, number: u32) -> bool
+    ensures { result ≡ holds number (R.ListRegister.held register) }
+{
+    let entry = register.entry();
     entry.state.is_valid() && u32::from(entry.id.number()) == number
 }

@@ -4,8 +4,7 @@
 use console::line::without_end;
 use register_commands::respond::respond;
 use register_device::device::RegisterDevice;
-use std::io;
-use std::io::{BufRead, BufReader, Write};
+use std::io::{self, BufRead, BufReader, Write};
 use std::process::ExitCode;
 
 // How many list registers the device has before the first `new`.
@@ -27,9 +26,7 @@ fn serve(rt: &HostRuntime, mut device: RegisterDevice) -> io::Result<()> {
 }
 
 fn main(rt: HostRuntime) -> ExitCode {
-    let Ok(device) = RegisterDevice::new(REGISTERS) else {
-        unreachable()
-    };
+    let device = RegisterDevice::new(REGISTERS).unwrap();
     match serve(&rt, device) {
         Ok(()) => ExitCode::SUCCESS,
         Err(error) => {

@@ -1,3 +1,4 @@
 pub mod Area
+pub mod Lengths
 pub mod Plays
 pub mod Reports

@@ -1,150 +1,88 @@
--- Playing what n places hold, one place after another.
-use Rattle.std.proofs.Common.{◌≡◌, ℕ, ◌+◌, ◌-◌, ◌*◌, ◌<◌, ◌≤◌, Bool, cond, List, [], ◌∷◌, ◌++◌, length, take, drop, Some, None, Option, sym, refl, ap, ◌∙◌, append_assoc, arith, length-append}
+-- Setups and events, played one after another: what is left to play says what was still to come at the start.
+use Rattle.std.proofs.Common.{◌≡◌, ℕ, ◌+◌, ◌-◌, ◌*◌, ◌≤◌, Bool, true, false, cond, Ok, Err, Result, List, [], ◌∷◌, ◌++◌, length, take, drop, refl, ap, ◌∙◌, append_assoc, length-append, arith}
 use borrow.Rule.Slice.PartMut.{put_mid}
-use Rattle.std.specs.Option.{option_to_list}
-use Rattle.refusal.specs.declared.Refusal.{Refusal}
-use Rattle.refusal.specs.Rows.{unless}
+use mir.Val.{bool_byte}
 use Rattle.guest.specs.Book.{Book}
-use Rattle.guest.specs.Calls.{next, says, refusal_of}
-use Rattle.guest.specs.Replies.{Said}
-use Rattle.fault.specs.declared.Fault.{Fault}
-use Rattle.fault.specs.declared.GuestFault.{GuestFault}
+use Rattle.guest.specs.Calls.{Does}
+use Rattle.guest.specs.Replies.{Said, as_reply}
+use Rattle.guest.specs.declared.call.Answer.{Answer}
+use Rattle.refusal.specs.declared.Refusal.{Refusal}
+use Rattle.std.specs.Result.{is_err}
+use Rattle.records.specs.declared.record.Setup.{Setup}
 use Rattle.records.specs.declared.record.Event.{Event}
-use Rattle.records.specs.Bytes.{held_by}
-use Rattle.fault.specs.Faults.{of_guest}
-use Rattle.trace.proofs.Held.{held_from, held_none, held_more, held_split}
+use Rattle.trace.specs.declared.placed.Placed.{Placed}
 use Rattle.report.specs.declared.play.Tally.{Tally}
-use Rattle.report.specs.Lines.{onto, line_of}
-use Rattle.report.specs.Playing.{Placed, configuring, set_up, declined_or, setup_declined, after_setups, after_events, lines, names_number, was_declined, count_of, SetupsPlayed, EventsPlayed}
+use Rattle.report.specs.Lines.{onto, Puts, line_of}
+use Rattle.report.specs.Playing.{setup_declined, after_setups, after_events, lines, names_number, was_declined, count_of}
 use Rattle.report.proofs.Area.{next_onto}
 
--- setups
+-- of all setups these are left, and those before them were granted
+pub record SetUp (b : Book) (all : List (Placed Setup)) (now : Book) (left : List (Placed Setup)) : Type 0 where
+  pub means : after_setups b all ≡ after_setups now left
+  pub fault : setup_declined b all ≡ setup_declined now left
 
-granted_append : (b : Book) (xs ys : List Placed) → setup_declined b xs ≡ None → (setup_declined b (xs ++ ys) ≡ setup_declined (after_setups b xs) ys) × (after_setups b (xs ++ ys) ≡ after_setups (after_setups b xs) ys)
-granted_append b [] ys e = (refl, refl)
-granted_append b (x ∷ xs) ys e = go (granted_append (set_up x.setup b) xs ys) (refusal_of (configuring x.setup) b) e
-  where
-    go : (setup_declined (set_up x.setup b) xs ≡ None → (setup_declined (set_up x.setup b) (xs ++ ys) ≡ setup_declined (after_setups (set_up x.setup b) xs) ys) × (after_setups (set_up x.setup b) (xs ++ ys) ≡ after_setups (after_setups (set_up x.setup b) xs) ys)) →
-        (o : Option Refusal) → declined_or o x.place (setup_declined (set_up x.setup b) xs) ≡ None →
-        (declined_or o x.place (setup_declined (set_up x.setup b) (xs ++ ys)) ≡ setup_declined (unless o b (after_setups (set_up x.setup b) xs)) ys)
-        × (unless o b (after_setups (set_up x.setup b) (xs ++ ys)) ≡ after_setups (unless o b (after_setups (set_up x.setup b) xs)) ys)
-    go ih None f = ih f
-    go ih (Some r) f = let z : ◌≡◌ {A = ℕ} 0 1 = cc in absurd (omega arith)
-
-declined_append : (b : Book) (xs ys : List Placed) (f : Fault) → setup_declined b xs ≡ Some f → (setup_declined b (xs ++ ys) ≡ Some f) × (after_setups b (xs ++ ys) ≡ after_setups b xs)
-declined_append b [] ys f e = let z : ◌≡◌ {A = ℕ} 0 1 = cc in absurd (omega arith)
-declined_append b (x ∷ xs) ys f e = go (declined_append (set_up x.setup b) xs ys f) (refusal_of (configuring x.setup) b) e
-  where
-    go : (setup_declined (set_up x.setup b) xs ≡ Some f → (setup_declined (set_up x.setup b) (xs ++ ys) ≡ Some f) × (after_setups (set_up x.setup b) (xs ++ ys) ≡ after_setups (set_up x.setup b) xs)) →
-        (o : Option Refusal) → declined_or o x.place (setup_declined (set_up x.setup b) xs) ≡ Some f →
-        (declined_or o x.place (setup_declined (set_up x.setup b) (xs ++ ys)) ≡ Some f) × (unless o b (after_setups (set_up x.setup b) (xs ++ ys)) ≡ unless o b (after_setups (set_up x.setup b) xs))
-    go ih None g = ih g
-    go ih (Some r) g = (g, refl)
-
--- the setups of the first k places were all granted
-pub record SetUp (b : Book) (f : ℕ → Option Placed) (k : ℕ) (now : Book) : Type 0 where
-  pub granted : setup_declined b (held_by k f) ≡ None
-  pub means : now ≡ after_setups b (held_by k f)
-
-pub set_up_none : (b : Book) (f : ℕ → Option Placed) → SetUp b f 0 b
-set_up_none b f = record { granted = ap (setup_declined b) (held_none f); means = sym (ap (after_setups b) (held_none f)) }
-
-pub set_up_more : (b : Book) (f : ℕ → Option Placed) (k : ℕ) (now after : Book) → SetUp b f k now → SetupsPlayed now (option_to_list (f k)) after None → SetUp b f (k + 1) after
-set_up_more b f k now after s q =
-    let e = q.fault in
-    let a = q.means in
-    let p = granted_append b (held_by k f) (option_to_list (f k)) s.granted in
-    record {
-      granted = ap (setup_declined b) (held_more k f) ∙ p.0 ∙ ap (λ (c : Book). setup_declined c (option_to_list (f k))) (sym s.means) ∙ e;
-      means = a ∙ ap (λ (c : Book). after_setups c (option_to_list (f k))) s.means ∙ sym p.1 ∙ sym (ap (after_setups b) (held_more k f));
-    }
-
-pub set_up_exit : (b : Book) (f : ℕ → Option Placed) (k n : ℕ) (now after : Book) (g : GuestFault) → k < n → SetUp b f k now → SetupsPlayed now (option_to_list (f k)) after (Some g) → SetupsPlayed b (held_by n f) after (Some g)
-set_up_exit b f k n now after g h s o =
-    let x = of_guest g in
-    let e = o.fault in
-    let a = o.means in
-    let p = granted_append b (held_by k f) (option_to_list (f k)) s.granted in
-    let there : setup_declined b (held_by k f ++ option_to_list (f k)) ≡ Some x = p.0 ∙ ap (λ (c : Book). setup_declined c (option_to_list (f k))) (sym s.means) ∙ e in
-    let q = declined_append b (held_by k f ++ option_to_list (f k)) (held_from (k + 1) n f) x there in
-    let all : held_by n f ≡ (held_by k f ++ option_to_list (f k)) ++ held_from (k + 1) n f = held_split k n f h ∙ sym (append_assoc (held_by k f) (option_to_list (f k)) (held_from (k + 1) n f)) in
-    record {
-      fault = ap (setup_declined b) all ∙ q.0;
-      means = a ∙ ap (λ (c : Book). after_setups c (option_to_list (f k))) s.means ∙ sym p.1 ∙ sym q.1 ∙ sym (ap (after_setups b) all);
-    }
-
--- events
-
-after_append : (b : Book) (xs ys : List Event) → after_events b (xs ++ ys) ≡ after_events (after_events b xs) ys
-after_append b [] ys = refl
-after_append b (x ∷ xs) ys = after_append (next x.call b) xs ys
-
-lines_append : (b : Book) (xs ys : List Event) → lines b (xs ++ ys) ≡ lines b xs ++ lines (after_events b xs) ys
-lines_append b [] ys = refl
-lines_append b (x ∷ xs) ys =
-    ap (λ (t : List ℕ). line_of x.time (says x.call b) ++ t) (lines_append (next x.call b) xs ys)
-    ∙ sym (append_assoc (line_of x.time (says x.call b)) (lines (next x.call b) xs) (lines (after_events (next x.call b) xs) ys))
-
-count_append : (such : Said → Bool) (b : Book) (xs ys : List Event) → count_of such b (xs ++ ys) ≡ count_of such b xs + count_of such (after_events b xs) ys
-count_append such b [] ys = omega arith
-count_append such b (x ∷ xs) ys = omega (arith, count_append such (next x.call b) xs ys)
-
-pub count_one : (such : Said → Bool) (b : Book) (o : Option Event) → count_of such b (option_to_list o) ≤ 1
-count_one such b None = omega arith
-count_one such b (Some e) = go (such (says e.call b))
-  where
-    go : (t : Bool) → cond t 1 0 + 0 ≤ 1
-    go t = grind arith
-
--- the events of the first k places were played
-pub record Played (b : Book) (f : ℕ → Option Event) (old : List ℕ) (k : ℕ) (now : Book) (area : List ℕ) (t : Tally) : Type 0 where
-  pub played : EventsPlayed b (held_by k f) now old area t
-  pub few : t.used ≤ 20 * k
-  pub some_acks : t.acknowledged ≤ k
-  pub some_nos : t.declined ≤ k
+-- of all events these are left; the lines of those before them stand at the area's front
+pub record Played (b : Book) (all : List Event) (old : List ℕ) (now : Book) (left : List Event) (area : List ℕ) (most : ℕ) (t : Tally) : Type 0 where
+  pub front : List ℕ
+  pub means : after_events b all ≡ after_events now left
+  pub text : lines b all ≡ front ++ lines now left
+  pub written : area ≡ onto front old
+  pub used : t.used ≡ length front
+  pub acknowledged : count_of names_number b all ≡ t.acknowledged + count_of names_number now left
+  pub declined : count_of was_declined b all ≡ t.declined + count_of was_declined now left
+  pub few : t.used + 20 * length left ≤ 20 * most
+  pub some_acks : t.acknowledged + length left ≤ most
+  pub some_nos : t.declined + length left ≤ most
 
 abbrev tally : ℕ → ℕ → ℕ → Tally
 tally u a d = record { used = u; acknowledged = a; declined = d }
 
-pub played_none : (b : Book) (f : ℕ → Option Event) (old : List ℕ) → Played b f old 0 b old (tally 0 0 0)
-played_none b f old =
-    let e = held_none f in
+pub none_played : (b : Book) (all left : List Event) (old : List ℕ) (most : ℕ) → left ≡ all → length all ≤ most → Played b all old b left old most (tally 0 0 0)
+none_played b all left old most e h =
+    let n : length left ≤ most = rw e h in
     record {
-      played = record {
-        means = sym (ap (after_events b) e);
-        written = sym (ap (λ (es : List Event). onto (lines b es) old) e);
-        used = sym (ap (λ (es : List Event). length (lines b es)) e);
-        acknowledged = sym (ap (count_of names_number b) e);
-        declined = sym (ap (count_of was_declined b) e);
-      };
+      front = [];
+      means = rw e refl;
+      text = rw e refl;
+      written = refl;
+      used = refl;
+      acknowledged = rw e (omega arith);
+      declined = rw e (omega arith);
       few = omega arith;
       some_acks = omega arith;
       some_nos = omega arith;
     }
 
-pub played_more :
-    (b : Book) (f : ℕ → Option Event) (old : List ℕ) (k : ℕ) (now after : Book) (area part : List ℕ) (t o : Tally) (rest : ℕ) →
-    Played b f old k now area t → rest ≡ length area - t.used → EventsPlayed now (option_to_list (f k)) after (take rest (drop t.used area)) part o → o.used ≤ 20 →
-    Played b f old (k + 1) after (put_mid t.used rest area part) (tally (t.used + o.used) (t.acknowledged + o.acknowledged) (t.declined + o.declined))
-played_more b f old k now after area part t o rest q r one few =
-    let p = q.played in
-    let e = held_more k f in
-    let m : now ≡ after_events b (held_by k f) = p.means in
-    let l : lines now (option_to_list (f k)) ≡ lines (after_events b (held_by k f)) (option_to_list (f k)) = ap (λ (c : Book). lines c (option_to_list (f k))) m in
-    let ca = ap (λ (c : Book). count_of names_number c (option_to_list (f k))) m in
-    let cd = ap (λ (c : Book). count_of was_declined c (option_to_list (f k))) m in
-    let all : lines b (held_by (k + 1) f) ≡ lines b (held_by k f) ++ lines now (option_to_list (f k)) =
-    ap (lines b) e ∙ lines_append b (held_by k f) (option_to_list (f k)) ∙ ap (λ (x : List ℕ). lines b (held_by k f) ++ x) (sym l) in
-    let alen = ap length all in
+-- what a test counts
+
+pub test_counts : (b : Bool) → bool_byte b ≡ cond b 1 0
+test_counts true = refl
+test_counts false = refl
+
+pub at_most_one : (b : Bool) → bool_byte b ≤ 1
+at_most_one true = omega arith
+at_most_one false = omega arith
+
+pub declined_is_err : (said : Result Answer Refusal) → was_declined (as_reply said) ≡ is_err said
+declined_is_err (Ok a) = refl
+declined_is_err (Err r) = refl
+
+-- one more event was played
+pub one_more :
+    (b : Book) (all : List Event) (old : List ℕ) (now after : Book) (e : Event) (left others : List Event) (area part : List ℕ) (most : ℕ) (t : Tally) (said : Said) (rest n a d : ℕ) →
+    Played b all old now left area most t → left ≡ e ∷ others → Does e.call now after said → rest ≡ length area - t.used → Puts (line_of e.time said) (take rest (drop t.used area)) part n → n ≤ 20 →
+    a ≡ bool_byte (names_number said) → d ≡ bool_byte (was_declined said) → Played b all old after others (put_mid t.used rest area part) most (tally (t.used + n) (t.acknowledged + a) (t.declined + d))
+one_more b all old now after e left others area part most t said rest n a d p l does r line short x y =
+    let k : length left ≡ length others + 1 = omega (arith, ap length l) in
     record {
-      played = record {
-        means = one.means ∙ ap (λ (c : Book). after_events c (option_to_list (f k))) m ∙ sym (after_append b (held_by k f) (option_to_list (f k))) ∙ sym (ap (after_events b) e);
-        written = next_onto (lines b (held_by k f)) (lines now (option_to_list (f k))) old area part t.used rest p.written p.used r one.written ∙ sym (ap (λ (x : List ℕ). onto x old) all);
-        used = omega (arith, p.used, one.used, alen, length-append (lines b (held_by k f)) (lines now (option_to_list (f k))));
-        acknowledged = omega (arith, p.acknowledged, one.acknowledged, ca, ap (count_of names_number b) e, count_append names_number b (held_by k f) (option_to_list (f k)));
-        declined = omega (arith, p.declined, one.declined, cd, ap (count_of was_declined b) e, count_append was_declined b (held_by k f) (option_to_list (f k)));
-      };
-      few = omega (arith, q.few, few);
-      some_acks = omega (arith, q.some_acks, one.acknowledged, count_one names_number now (f k));
-      some_nos = omega (arith, q.some_nos, one.declined, count_one was_declined now (f k));
+      front = p.front ++ line_of e.time said;
+      means = rw does.0 (p.means ∙ ap (after_events now) l);
+      text = rw (does.0, does.1, append_assoc) (p.text ∙ ap (λ (es : List Event). p.front ++ lines now es) l);
+      written = next_onto p.front (line_of e.time said) old area part t.used rest p.written p.used r line.after;
+      used = omega (arith, p.used, line.value, length-append p.front (line_of e.time said));
+      acknowledged = rw does.0 (omega (arith, p.acknowledged, x, test_counts (names_number said), ap {B = ℕ} (λ (s : Said). cond (names_number s) 1 0) does.1, ap (count_of names_number now) l));
+      declined = rw does.0 (omega (arith, p.declined, y, test_counts (was_declined said), ap {B = ℕ} (λ (s : Said). cond (was_declined s) 1 0) does.1, ap (count_of was_declined now) l));
+      few = omega (arith, p.few);
+      some_acks = omega (arith, p.some_acks, at_most_one (names_number said));
+      some_nos = omega (arith, p.some_nos, at_most_one (was_declined said));
     }

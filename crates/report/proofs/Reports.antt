@@ -1,45 +1,34 @@
--- The three ends of a report.
-use Rattle.std.proofs.Common.{◌≡◌, ℕ, ◌+◌, ◌-◌, ◌<◌, ◌≤◌, List, ◌++◌, length, take, drop, Some, None, Ok, Err, Result, refl, ap, ◌∙◌, arith, length-append}
+-- A report whose setups were granted.
+use Rattle.std.proofs.Common.{◌≡◌, ℕ, ◌+◌, ◌-◌, ◌≤◌, List, ◌++◌, length, take, drop, None, Ok, ap, ◌∙◌, arith, length-append}
 use borrow.Rule.Slice.PartMut.{put_mid}
 use Rattle.guest.specs.Book.{Book}
-use Rattle.fault.specs.declared.Fault.{Fault}
+use Rattle.records.specs.declared.record.Setup.{Setup}
 use Rattle.records.specs.declared.record.Event.{Event}
-use Rattle.fault.specs.Faults.{area_too_small}
+use Rattle.trace.specs.declared.placed.Placed.{Placed}
 use Rattle.report.specs.declared.play.Tally.{Tally}
-use Rattle.report.specs.Lines.{onto, done_line}
-use Rattle.report.specs.Playing.{Placed, setup_declined, after_setups, after_events, lines, names_number, count_of, EventsPlayed}
+use Rattle.report.specs.Lines.{onto, Puts, done_line}
+use Rattle.report.specs.Playing.{setup_declined, after_setups, after_events, lines, names_number, count_of, EventsPlayed}
 use Rattle.report.specs.Reporting.{report_text, Reports}
 use Rattle.report.proofs.Area.{next_onto}
 
-module _ (room : ℕ) (setups : List Placed) (events : List Event) (b : Book) (area : List ℕ) where
-  pub too_small : (r : Result ℕ Fault) → length area < room → r ≡ Err area_too_small → Reports room setups events b b area area r
-  too_small r h e = record { small = λ _. (e, refl, refl); stopped = λ f l d. absurd (omega arith); done = λ l d. absurd (omega arith) }
-
-  pub declined_setup : (after : Book) (f : Fault) (r : Result ℕ Fault) → room ≤ length area → setup_declined b setups ≡ Some f → after ≡ after_setups b setups → r ≡ Err f → Reports room setups events b after area area r
-  declined_setup after f r h d a e =
-      record {
-        small = λ l. absurd (omega arith);
-        stopped = λ g l s. (e ∙ (let q : f ≡ g = cc in ap Err q), a, refl);
-        done = λ l s. let z : ◌≡◌ {A = ℕ} 0 1 = cc in absurd (omega arith);
-      }
-
+module _ (room : ℕ) (setups : List (Placed Setup)) (events : List Event) (b : Book) (area : List ℕ) where
   pub all_played :
       (ready after : Book) (written part : List ℕ) (t : Tally) (last rest : ℕ) → room ≤ length area → setup_declined b setups ≡ None → ready ≡ after_setups b setups →
       EventsPlayed ready events after area written t → rest ≡ length written - t.used →
-      part ≡ onto (done_line t.acknowledged t.declined) (take rest (drop t.used written)) → last ≡ length (done_line t.acknowledged t.declined) →
+      Puts (done_line t.acknowledged t.declined) (take rest (drop t.used written)) part last →
       Reports room setups events b after area (put_mid t.used rest written part) (Ok (t.used + last))
-  all_played ready after written part t last rest h d r q e p l =
+  all_played ready after written part t last rest h d r q e p =
       let text : lines ready events ++ done_line t.acknowledged t.declined ≡ report_text (after_setups b setups) events =
       ap (λ (x : List ℕ). lines ready events ++ x) (ap (λ (m : ℕ). done_line m t.declined) q.acknowledged ∙ ap (done_line (count_of names_number ready events)) q.declined)
       ∙ ap (λ (c : Book). report_text c events) r in
       let long : t.used + last ≡ length (report_text (after_setups b setups) events) =
-      omega (arith, q.used, length-append (lines ready events) (done_line t.acknowledged t.declined), ap length text) in
+      omega (arith, q.used, p.value, length-append (lines ready events) (done_line t.acknowledged t.declined), ap length text) in
       record {
         small = λ i. absurd (omega arith);
         stopped = λ f i s. let z : ◌≡◌ {A = ℕ} 0 1 = cc in absurd (omega arith);
         done = λ i s. (
           ap Ok long,
           q.means ∙ ap (λ (c : Book). after_events c events) r,
-          next_onto (lines ready events) (done_line t.acknowledged t.declined) area written part t.used rest q.written q.used e p ∙ ap (λ (x : List ℕ). onto x area) text,
+          next_onto (lines ready events) (done_line t.acknowledged t.declined) area written part t.used rest q.written q.used e p.after ∙ ap (λ (x : List ℕ). onto x area) text,
         );
       }

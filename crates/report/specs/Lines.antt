@@ -1,5 +1,5 @@
 -- The lines of a report.
-use Rattle.std.specs.Prelude.{ℕ, List, [], ◌∷◌, ◌++◌, length, drop, Some, None, Ok, Err, codes, decimal, Option}
+use Rattle.std.specs.Prelude.{◌≡◌, ℕ, List, [], ◌∷◌, ◌++◌, length, drop, Some, None, Ok, Err, codes, decimal, Option}
 use Rattle.refusal.specs.declared.Refusal.{Refusal}
 use Rattle.refusal.specs.Numbers.{refusal_number}
 use Rattle.guest.specs.Replies.{done, changed, acknowledged, Said}
@@ -7,6 +7,11 @@ use Rattle.guest.specs.Replies.{done, changed, acknowledged, Said}
 -- an area with a text at its front, and past the text what it held before
 abbrev pub onto : List ℕ → List ℕ → List ℕ
 onto text area = text ++ drop (length text) area
+
+-- n bytes of this text were written at the front of an area, which held old and is left holding new
+pub record Puts (text old new : List ℕ) (n : ℕ) : Type 0 where
+  pub value : n ≡ length text
+  pub after : new ≡ onto text old
 
 -- every line ends in byte 10
 abbrev pub newline : List ℕ

@@ -12,16 +12,12 @@ use Rattle.fault.specs.declared.Fault.{Fault}
 use Rattle.fault.specs.declared.GuestFault.{GuestFault}
 use Rattle.records.specs.declared.record.Setup.{Setup}
 use Rattle.records.specs.declared.record.Event.{Event}
+use Rattle.trace.specs.declared.placed.Placed.{Placed}
 use Rattle.fault.specs.Faults.{declined, of_guest}
 use Rattle.report.specs.declared.play.Tally.{Tally}
 use Rattle.report.specs.Lines.{onto, line_of}
 
 -- the setups
-
--- a setup, and where its record lies in the file
-pub record Placed : Type 0 where
-  pub place : ℕ
-  pub setup : Setup
 
 abbrev pub configuring : Setup → Call
 configuring u = Configure u.number u.kind u.priority
@@ -36,17 +32,17 @@ declined_or (Some r) place other = Some (declined r place)
 declined_or None place other = other
 
 -- the fault of the first setup that the guest declines
-abbrev pub setup_declined : Book → List Placed → Option Fault
+abbrev pub setup_declined : Book → List (Placed Setup) → Option Fault
 setup_declined b [] = None
-setup_declined b (p ∷ ps) = declined_or (refusal_of (configuring p.setup) b) p.place (setup_declined (set_up p.setup b) ps)
+setup_declined b (p ∷ ps) = declined_or (refusal_of (configuring p.value) b) p.place (setup_declined (set_up p.value b) ps)
 
 -- what the guest means after the setups, or after those before the first declined one
-abbrev pub after_setups : Book → List Placed → Book
+abbrev pub after_setups : Book → List (Placed Setup) → Book
 after_setups b [] = b
-after_setups b (p ∷ ps) = unless (refusal_of (configuring p.setup) b) b (after_setups (set_up p.setup b) ps)
+after_setups b (p ∷ ps) = unless (refusal_of (configuring p.value) b) b (after_setups (set_up p.value b) ps)
 
 -- these setups were played from a guest meaning b: what it means after them, and the fault of the one that it declined, if any
-pub record SetupsPlayed (b : Book) (setups : List Placed) (after : Book) (e : Option GuestFault) : Type 0 where
+pub record SetupsPlayed (b : Book) (setups : List (Placed Setup)) (after : Book) (e : Option GuestFault) : Type 0 where
   pub means : after ≡ after_setups b setups
   pub fault : setup_declined b setups ≡ option_map of_guest e
 

@@ -1,22 +1,14 @@
 -- The report of a trace on a guest.
-use Rattle.std.specs.Prelude.{◌≡◌, ℕ, ◌+◌, ◌*◌, ◌<◌, ◌≤◌, List, ◌++◌, length, Some, None, Ok, Err, Option, Result}
-use Rattle.std.specs.Option.{option_map}
+use Rattle.std.specs.Prelude.{◌≡◌, ℕ, ◌+◌, ◌*◌, ◌<◌, ◌≤◌, List, ◌++◌, length, Some, None, Ok, Err, Result}
 use Rattle.guest.specs.Book.{Book}
-use Rattle.trace.specs.declared.contents.Section.{Section}
+use Rattle.trace.specs.declared.section.Section.{Section}
 use Rattle.fault.specs.declared.Fault.{Fault}
+use Rattle.trace.specs.declared.placed.Placed.{Placed}
+use Rattle.records.specs.declared.record.Setup.{Setup}
 use Rattle.records.specs.declared.record.Event.{Event}
-use Rattle.records.specs.Bytes.{held_by}
 use Rattle.fault.specs.Faults.{area_too_small}
-use Rattle.trace.specs.Opening.{place, setup_at}
 use Rattle.report.specs.Lines.{onto, done_line}
-use Rattle.report.specs.Playing.{Placed, setup_declined, after_setups, after_events, lines, names_number, was_declined, count_of}
-
-abbrev pub placed_at : List ℕ → Section → ℕ → Option Placed
-placed_at file s k = option_map (λ u. record { place = place s k; setup = u }) (setup_at file s k)
-
--- the setups of a section, each with its place
-abbrev pub placed_in : List ℕ → Section → List Placed
-placed_in file s = held_by s.count (placed_at file s)
+use Rattle.report.specs.Playing.{setup_declined, after_setups, after_events, lines, names_number, was_declined, count_of}
 
 -- the lines of the events, and the last line
 abbrev pub report_text : Book → List Event → List ℕ
@@ -28,7 +20,7 @@ room_for s = 20 * (s.count + 1)
 
 -- a report of these setups and events, in an area that needs this room: found a guest meaning b and left it meaning after,
 -- found this area and left it so, and answered r
-pub record Reports (room : ℕ) (setups : List Placed) (events : List Event) (b after : Book) (area left : List ℕ) (r : Result ℕ Fault) : Type 0 where
+pub record Reports (room : ℕ) (setups : List (Placed Setup)) (events : List Event) (b after : Book) (area left : List ℕ) (r : Result ℕ Fault) : Type 0 where
   -- an area that is too small is refused before anything runs
   pub small : length area < room → (r ≡ Err area_too_small) × (after ≡ b) × (left ≡ area)
   -- a declined setup is a fault with its place

@@ -2,7 +2,8 @@
 ghost use Rattle.std.specs.Prelude.{◌≡◌, ◌<◌, ◌≤◌, MatchResult};
 ghost use Rattle.fault.specs.declared.ContentsFault.TheVariants.{Area};
 ghost use Rattle.trace.specs.Opening.{events_in};
-ghost use Rattle.report.specs.Reporting.{placed_in, room_for, Reports};
+ghost use Rattle.trace.specs.Walking.{placed_in};
+ghost use Rattle.report.specs.Reporting.{room_for, Reports};
 
 use crate::line::{LONGEST, put_done};
 use crate::play::{play_events, play_setups};
@@ -13,9 +14,7 @@ use trace::reader::Trace;
 // Plays the setups and then the events on the guest, writes the report from the area's front, and answers its length.
 // An area under 20 bytes for each event and 20 more is refused before anything runs.
 pub fn report<G: Guest>(guest: &mut G, trace: &Trace, area: &mut [u8]) -> Result<usize, Fault>
-    requires { G.Guest.sound guest.old }
-    ensures kept { G.Guest.sound guest.new }
-    ensures reports { Reports (room_for trace.now.events) (placed_in trace.now.file.now trace.now.setups) (events_in trace.now.file.now trace.now.events) (G.Guest.book guest.old) (G.Guest.book guest.new) area.old area.new result }
+    ensures { Reports (room_for trace.now.events) (placed_in trace.now.file.now trace.now.setups) (events_in trace.now.file.now trace.now.events) (G.Guest.book guest.old) (G.Guest.book guest.new) area.old area.new result }
 {
     check_room(trace, area.len())?;
     play_setups(guest, trace)?;
@@ -24,11 +23,18 @@ pub fn report<G: Guest>(guest: &mut G, trace: &Trace, area: &mut [u8]) -> Result
     Ok(used + put_done(&mut area[used..], tally.acknowledged, tally.declined))
 }
 
-// Whether an area of this size has room for the report, whatever the guest answers.
+// The bytes of an area that has room for the report, whatever the guest answers.
+pub fn room(trace: &Trace) -> usize
+    ensures { result ≡ room_for trace.now.events }
+{
+    LONGEST * (usize::from(trace.events.count) + 1)
+}
+
+// Whether an area of this size has room for the report.
 fn check_room(trace: &Trace, size: usize) -> Result<(), ContentsFault>
     ensures { MatchResult result (λ _. room_for trace.now.events ≤ size) (λ e. (size < room_for trace.now.events) × (e ≡ Area)) }
 {
-    if size < LONGEST * (trace.events.count as usize + 1) {
+    if size < room(trace) {
         return Err(ContentsFault::Area);
     }
     Ok(())

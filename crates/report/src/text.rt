@@ -1,30 +1,34 @@
 // Text at the front of an area. Past the text the old bytes stand.
-ghost use Rattle.std.specs.Prelude.{◌≡◌, ◌≤◌, length, decimal};
-ghost use Rattle.report.specs.Lines.{onto};
+ghost use Rattle.std.specs.Prelude.{◌≤◌, ◌++◌, length, decimal};
+ghost use Rattle.report.specs.Lines.{Puts, number_line};
+
+use itoa::Buffer;
 
 // Writes the text, and returns its length.
 pub(crate) fn put_text(area: &mut [u8], text: &[u8]) -> usize
     requires { length text.now ≤ length area.old }
-    ensures value { result ≡ length text.now }
-    ensures after { area.new ≡ onto text.now area.old }
+    ensures { Puts text.now area.old area.new result }
 {
     let n = text.len();
-    area[0..n].copy_from_slice(text);
+    area[..n].copy_from_slice(text);
     n
 }
 
-// Writes the number in plain decimal, and returns how many digits it has.
-pub(crate) fn put_decimal(area: &mut [u8], n: u32) -> usize
-    requires { length (decimal n) ≤ length area.old }
-    ensures value { result ≡ length (decimal n) }
-    ensures after { area.new ≡ onto (decimal n) area.old }
+// A number in plain decimal, and a text after it.
+pub(crate) fn put_number(area: &mut [u8], number: u32, text: &[u8]) -> usize
+    requires { length (decimal number ++ text.now) ≤ length area.old }
+    ensures { Puts (decimal number ++ text.now) area.old area.new result }
 {
-    if n < 10 {
-        area[0] = b'0' + n as u8;
-        1
-    } else {
-        let k = put_decimal(area, n / 10);
-        area[k] = b'0' + (n % 10) as u8;
-        k + 1
-    }
+    let mut digits = Buffer::new();
+    let a = put_text(area, digits.format(number).as_bytes());
+    a + put_text(&mut area[a..], text)
+}
+
+// Two numbers with a text between them, and the line's end.
+pub(crate) fn put_numbers(area: &mut [u8], first: u32, between: &[u8], second: u32) -> usize
+    requires { length (number_line first between.now second) ≤ length area.old }
+    ensures { Puts (number_line first between.now second) area.old area.new result }
+{
+    let a = put_number(area, first, between);
+    a + put_number(&mut area[a..], second, b"\n")
 }

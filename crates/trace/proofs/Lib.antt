@@ -1,3 +1,4 @@
 pub mod Held
 pub mod Opened
 pub mod Records
+pub mod Walks

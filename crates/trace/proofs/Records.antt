@@ -3,12 +3,12 @@ use Rattle.std.proofs.Common.{◌≡◌, ℕ, ◌+◌, ◌-◌, ◌<◌, ◌≤�
 use Rattle.std.proofs.lemmas.Bool.{ne_eqb, lt-ltb, le-ltb, cases_lt, cond-false}
 use Rattle.std.specs.Option.{option_map}
 use Rattle.guest.specs.declared.call.Call.{Call}
-use Rattle.trace.specs.declared.contents.Section.{Section}
+use Rattle.trace.specs.declared.section.Section.{Section}
 use Rattle.records.specs.declared.record.Event.{Event}
 use Rattle.records.specs.Bytes.{byte, le16, le32, record_at}
 use Rattle.fault.specs.Faults.{time_falls, bad_field, ◌unless◌, ◌else◌}
 use Rattle.records.specs.Letters.{call_of}
-use Rattle.trace.specs.Opening.{place, Absent, setup_at, event_at, time_at, event_fault}
+use Rattle.trace.specs.Opening.{place, Absent, event_at, time_at, event_fault}
 use Rattle.records.specs.Records.{whole, event_of}
 
 abbrev made : ℕ → Call → Event
@@ -24,14 +24,8 @@ event_time r o e a h = go (whole r) (call_of (byte r 4) (byte r 5) (le16 r 6)) (
     go false o q = absurd (let z : ◌≡◌ {A = ℕ} 0 1 = cc in omega arith)
 
 -- a record that the file's end cuts is not whole
-not_whole : (file : List ℕ) (s : Section) (k : ℕ) → k < s.count → Absent file s k → whole (record_at file (place s k)) ≡ false
+pub not_whole : (file : List ℕ) (s : Section) (k : ℕ) → k < s.count → Absent file s k → whole (record_at file (place s k)) ≡ false
 not_whole file s k h a = ne_eqb (length (record_at file (place s k))) 8 (λ e. ⊎_elim (λ (l : s.count ≤ k). omega arith) (λ (l : length file < place s k + 8). omega (arith, length-take 8 (drop (place s k) file), length-drop (place s k) file, e)) a)
-
-pub setup_absent : (file : List ℕ) (s : Section) (k : ℕ) → k < s.count → Absent file s k → setup_at file s k ≡ None
-setup_absent file s k h a = rw (not_whole file s k h a)
-
-pub event_absent : (file : List ℕ) (s : Section) (k : ℕ) → k < s.count → Absent file s k → event_at file s k ≡ None
-event_absent file s k h a = rw (not_whole file s k h a)
 
 -- the time before event k
 abbrev pub time_before : List ℕ → Section → ℕ → ℕ

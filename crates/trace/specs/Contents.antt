@@ -1,7 +1,7 @@
 -- The table of contents: byte 1 (the edition), the number of sections, and an entry of 12 bytes for each.
 use Rattle.std.specs.Prelude.{ℕ, ◌+◌, ◌-◌, ◌*◌, Bool, cond, ◌&&◌, ◌||◌, List, length, None, Option, ◌==◌, nat_eq, nat_le}
 use Rattle.fault.specs.declared.Fault.{Fault}
-use Rattle.trace.specs.declared.contents.Section.{Section}
+use Rattle.trace.specs.declared.section.Section.{Section}
 use Rattle.records.specs.Bytes.{byte, le16, le32}
 use Rattle.fault.specs.Faults.{bad_contents, ◌unless◌, ◌else◌}
 

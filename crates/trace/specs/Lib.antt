@@ -1,2 +1,3 @@
 pub mod Contents
 pub mod Opening
+pub mod Walking

@@ -1,7 +1,7 @@
 -- Which files open, which fault any other has, and what an open trace holds.
 use Rattle.std.specs.Prelude.{◌≡◌, ℕ, ◌+◌, ◌-◌, ◌*◌, ◌<◌, ◌≤◌, true, not, ◌⊎◌, List, length, is_some, None, Option, nat_lt}
 use Rattle.fault.specs.declared.Fault.{Fault}
-use Rattle.trace.specs.declared.contents.Section.{Section}
+use Rattle.trace.specs.declared.section.Section.{Section}
 use Rattle.records.specs.declared.record.Setup.{Setup}
 use Rattle.records.specs.declared.record.Event.{Event}
 use Rattle.records.specs.Bytes.{le32, record_at, held_by}
@@ -52,10 +52,14 @@ fault_of file = contents_fault file else setups_fault file (setups_section file)
 abbrev pub WellFormed : List ℕ → Type 0
 WellFormed file = fault_of file ≡ None
 
+-- every record of a section holds something, by what its bytes do
+abbrev pub Readable : {A : Type 0} → (List ℕ → Option A) → List ℕ → Section → Type 0
+Readable held file s = (k : ℕ) → k < s.count → is_some (held (record_at file (place s k))) ≡ true
+
 -- every record of the file is a setup or an event
 pub record AllRead (file : List ℕ) : Type 0 where
-  pub setups : (k : ℕ) → k < (setups_section file).count → is_some (setup_at file (setups_section file) k) ≡ true
-  pub events : (k : ℕ) → k < (events_section file).count → is_some (event_at file (events_section file) k) ≡ true
+  pub setups : Readable setup_of file (setups_section file)
+  pub events : Readable event_of file (events_section file)
 
 -- the events of a section
 abbrev pub events_in : List ℕ → Section → List Event

@@ -47,36 +47,31 @@ apart_push n (x ∷ xs) f h =
 
 -- places of a chain and their neighbours
 
--- who is in a chain, with places below m, is between neighbours below m
-pub record Between (N P : ℕ → ℕ) (m n : ℕ) : Type 0 where
+-- who is in a chain comes after what comes before it, and before what comes after it
+pub record Between (N P : ℕ → ℕ) (n : ℕ) : Type 0 where
   pub back : N (P n) ≡ n
   pub forth : P (N n) ≡ n
-  pub next : N n < m
-  pub prev : P n < m
 
-module _ (N P : ℕ → ℕ) (m b : ℕ) (low : b < m) where
-  after : (a : ℕ) (xs : List ℕ) → ((x : ℕ) → has x xs ≡ true → x < m) → Chain N P a xs b → (P (N a) ≡ a) × (N a < m)
-  after a [] h l = (grind (arith, nat_tests), grind (arith, nat_tests))
-  after a (x ∷ xs) h l = let k = h x in (grind (arith, nat_tests), grind (arith, nat_tests))
+module _ (N P : ℕ → ℕ) (b : ℕ) where
+  after : (a : ℕ) (xs : List ℕ) → Chain N P a xs b → P (N a) ≡ a
+  after a [] l = grind (arith, nat_tests)
+  after a (x ∷ xs) l = grind (arith, nat_tests)
 
-  pub between : (n a : ℕ) (xs : List ℕ) → a < m → ((x : ℕ) → has x xs ≡ true → x < m) → has n xs ≡ true → Chain N P a xs b → Between N P m n
-  between n a [] u h f l = absurd (false≢true f)
-  between n a (x ∷ xs) u h f l = pick (λ g. between n x xs (h x (grind (arith, nat_tests))) rest g l.2) (eqb x n) refl
+  pub between : (n a : ℕ) (xs : List ℕ) → has n xs ≡ true → Chain N P a xs b → Between N P n
+  between n a [] f l = absurd (false≢true f)
+  between n a (x ∷ xs) f l = pick (λ g. between n x xs g l.2) (eqb x n) refl
     where
-      rest : (y : ℕ) → has y xs ≡ true → y < m
-      rest y e = h y (grind (arith, nat_tests))
-
-      pick : (has n xs ≡ true → Between N P m n) → (t : Bool) → eqb x n ≡ t → Between N P m n
+      pick : (has n xs ≡ true → Between N P n) → (t : Bool) → eqb x n ≡ t → Between N P n
       pick ih true e =
           let q : x ≡ n = grind (arith, nat_tests) in
-          let i = l.0 in let j = l.1 in let r = after x xs rest l.2 in
-          record { back = grind (arith, nat_tests); forth = grind (arith, nat_tests); next = grind (arith, nat_tests); prev = grind (arith, nat_tests) }
+          let i = l.0 in let j = l.1 in let r = after x xs l.2 in
+          record { back = grind (arith, nat_tests); forth = grind (arith, nat_tests) }
       pick ih false e = ih (grind (arith, nat_tests))
 
   -- the last of a chain
-  pub last_link : (a : ℕ) (xs : List ℕ) → a < m → ((x : ℕ) → has x xs ≡ true → x < m) → Chain N P a xs b → (N (P b) ≡ b) × (P b < m)
-  last_link a [] u h l = let e = l.0 in let f = l.1 in (grind (arith, nat_tests), grind (arith, nat_tests))
-  last_link a (x ∷ xs) u h l = last_link x xs (h x (grind (arith, nat_tests))) (λ y e. h y (grind (arith, nat_tests))) l.2
+  pub last_link : (a : ℕ) (xs : List ℕ) → Chain N P a xs b → N (P b) ≡ b
+  last_link a [] l = let e = l.0 in let f = l.1 in grind (arith, nat_tests)
+  last_link a (x ∷ xs) l = last_link x xs l.2
 
 -- n is taken out: its neighbours are linked to each other
 

@@ -1,4 +1,5 @@
 pub mod Chains
 pub mod Lists
 pub mod Steps
+pub mod Tables
 pub mod Waiting

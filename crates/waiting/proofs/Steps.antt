@@ -1,16 +1,18 @@
 -- What the steps do to each ring.
-use Rattle.std.proofs.Common.{◌≡◌, ℕ, ◌<◌, ◌≤◌, Bool, true, false, cond, eqb, ◌≢◌, List, [], ◌∷◌, ◌++◌, length, set, Some, None, Option, sym, refl, ap, ◌∙◌, subst, arith, length-set, get_or-set_other, get_or-set_same, MatchOption}
+use Rattle.std.proofs.Common.{◌≡◌, ℕ, ◌<◌, ◌≤◌, Bool, true, false, cond, eqb, ◌≢◌, List, [], ◌∷◌, ◌++◌, Some, None, Option, sym, refl, ap, ◌∙◌, subst, arith, MatchOption}
 use Rattle.std.proofs.lemmas.Bool.Decides.{nat_tests}
 use Rattle.std.specs.Option.{option_map}
 use Rattle.interrupt.specs.Lists.{has, without, first}
 use Rattle.interrupt.specs.Meaning.{id_of}
+use Rattle.interrupt.specs.Sets.{put}
 use Rattle.interrupt.specs.declared.id.InterruptId.{InterruptId}
-use Rattle.waiting.specs.Links.{interrupts, places, end_of, at, ring, Linked, Once, Named}
+use Rattle.waiting.specs.Links.{next_of, prev_of, ring, Linked, Once, Named}
+use Rattle.waiting.specs.Places.{interrupts, places, end_of}
 use Rattle.waiting.specs.Rings.{ring_list}
 use Rattle.waiting.specs.declared.links.Links.{Links}
 use Rattle.waiting.specs.declared.rings.Rings.{Rings}
 use Rattle.waiting.proofs.Lists.{has_push, has_without, without_none}
-use Rattle.waiting.proofs.Chains.{Chain, Apart, chain_from, chain_to, apart_from, apart_to, apart_without, apart_push, Between, between, last_link, Cut, cut_else, cut_own, Put, put_else, put_own, walk_finds, few}
+use Rattle.waiting.proofs.Chains.{Chain, Apart, chain_from, chain_to, apart_from, apart_to, apart_without, apart_push, between, last_link, Cut, cut_else, cut_own, Put, put_else, put_own, walk_finds, few}
 
 -- xs is the ring p
 pub record Ring (N P : ℕ → ℕ) (p : ℕ) (xs : List ℕ) : Type 0 where
@@ -20,7 +22,7 @@ pub record Ring (N P : ℕ → ℕ) (p : ℕ) (xs : List ℕ) : Type 0 where
 
 -- each of the rings is as q says
 abbrev pub Each : Links → (ℕ → List ℕ) → Type 0
-Each l q = (p : ℕ) → p < 32 → Ring (at l.next) (at l.prev) p (q p)
+Each l q = (p : ℕ) → p < 32 → Ring (next_of l) (prev_of l) p (q p)
 
 -- an end is in no ring
 no_end : (N P : ℕ → ℕ) (p : ℕ) (xs : List ℕ) → Ring N P p xs → (q : ℕ) → has (end_of q) xs ≡ false
@@ -42,24 +44,18 @@ each s p h =
     record { linked = chain_from _ _ _ _ _ (s.linked p h); apart = apart_from _ (s.once p h); named = s.named p h }
 
 abbrev pub Sound : Links → Type 0
-Sound l = Linked l.next l.prev × Once l.next × Named l.next
+Sound l = Linked l × Once l × Named l
 
 pub sound : (l : Links) (q : ℕ → List ℕ) → Each l q → Sound l
 sound l q r = (λ p h. chain_to _ _ _ _ _ (here p h).linked, λ p h. apart_to _ (here p h).apart, λ p h. (here p h).named)
   where
-    here : Each l (ring (at l.next))
-    here p h = subst (λ (xs : List ℕ). Ring (at l.next) (at l.prev) p xs) (sym (found _ _ p (q p) (r p h))) (r p h)
-
-low : (q : ℕ) → q < 32 → end_of q < places
-low q h = omega arith
-
-pub at_set : (xs : List ℕ) (i v j : ℕ) → i < length xs → at (set xs i v) j ≡ cond (eqb j i) v (at xs j)
-at_set xs i v j h = let s = get_or-set_same xs i v 0 h in let o = get_or-set_other xs i j v 0 in grind (arith, nat_tests)
+    here : Each l (ring (next_of l))
+    here p h = subst (λ (xs : List ℕ). Ring (next_of l) (prev_of l) p xs) (sym (found _ _ p (q p) (r p h))) (r p h)
 
 -- no one is in any ring
-pub none : (l : Links) → ((i : ℕ) → i < places → at l.next i ≡ i) → ((i : ℕ) → i < places → at l.prev i ≡ i) → Each l (λ _. [])
+pub none : (l : Links) → ((i : ℕ) → i < places → next_of l i ≡ i) → ((i : ℕ) → i < places → prev_of l i ≡ i) → Each l (λ _. [])
 none l a b p h =
-    record { linked = (a (end_of p) (low p h), b (end_of p) (low p h)); apart = tt; named = λ x e. grind (arith, nat_tests) }
+    record { linked = (a (end_of p) (omega arith), b (end_of p) (omega arith)); apart = tt; named = λ x e. grind (arith, nat_tests) }
 
 -- n leaves the ring that it is in
 
@@ -77,23 +73,18 @@ left_ring N P N' P' n b c p xs r =
 abbrev pub In : Rings → ℕ → Type 0
 In s n = (q : ℕ) × (q < 32) × (has n (ring_list s q) ≡ true)
 
-pub neighbours : (s : Rings) (n : ℕ) → In s n → Between (at s.links.next) (at s.links.prev) places n
-neighbours s n i =
-    let r = each s i.0 i.1 in
-    between (at s.links.next) (at s.links.prev) places (end_of i.0) (low i.0 i.1) n (end_of i.0) _ (low i.0 i.1) (λ x e. let k = r.named x e in omega arith) i.2 r.linked
-
--- as the code does it, at the place m of n
-pub left_rings : (s : Rings) (l : Links) (n m : ℕ) → length s.links.next ≡ places → length s.links.prev ≡ places → n < interrupts → In s n → m ≡ n → l.next ≡ set s.links.next (at s.links.prev m) (at s.links.next m) → l.prev ≡ set s.links.prev (at s.links.next m) (at s.links.prev m) → Each l (λ p. without n (ring_list s p))
-left_rings s l n m ln lp b i e f g p h =
-    let t = neighbours s n i in
-    let u = t.next in let v = t.prev in
-    let N = at s.links.next in let P = at s.links.prev in
-    left_ring N P (at l.next) (at l.prev) n b
+-- as the code does it: its neighbours are linked to each other
+pub left_rings : (s : Rings) (l : Links) (n : ℕ) → n < interrupts → In s n → (b a : ℕ) → b ≡ prev_of s.links n → a ≡ next_of s.links n →
+    next_of l ≡ put b a (next_of s.links) → prev_of l ≡ put a b (prev_of s.links) → Each l (λ p. without n (ring_list s p))
+left_rings s l n named i b a e f g k p h =
+    let N = next_of s.links in let P = prev_of s.links in
+    let t = between N P (end_of i.0) n (end_of i.0) _ i.2 (each s i.0 i.1).linked in
+    left_ring N P (next_of l) (prev_of l) n named
     (record {
       back = t.back;
       forth = t.forth;
-      next = λ z. let w = at_set s.links.next (P n) (N n) z (omega arith) in rw f (rw e w);
-      prev = λ z. let w = at_set s.links.prev (N n) (P n) z (omega arith) in rw g (rw e w);
+      next = λ z. rw g (rw e (rw f));
+      prev = λ z. rw k (rw e (rw f));
     })
     p (ring_list s p) (each s p h)
 
@@ -119,25 +110,18 @@ joined_ring N P N' P' n q b c p xs f r = pick (eqb p q) refl
           named = r.named;
         }
 
--- what stands before the end of ring q
-pub before_end : (s : Rings) (q : ℕ) → q < 32 → (at s.links.next (at s.links.prev (end_of q)) ≡ end_of q) × (at s.links.prev (end_of q) < places)
-before_end s q h =
-    let r = each s q h in
-    last_link (at s.links.next) (at s.links.prev) places (end_of q) (low q h) (end_of q) _ (low q h) (λ x e. let k = r.named x e in omega arith) r.linked
-
--- as the code does it, by two links, at the place m of n and the end e
-pub joined_rings : (s : Rings) (k l : Links) (n q m e : ℕ) → length s.links.next ≡ places → length s.links.prev ≡ places → n < interrupts → q < 32 → ((p : ℕ) → p < 32 → has n (ring_list s p) ≡ false) → m ≡ n → e ≡ end_of q → k.next ≡ set s.links.next (at s.links.prev e) m → k.prev ≡ set s.links.prev m (at s.links.prev e) → l.next ≡ set k.next m e → l.prev ≡ set k.prev e m → Each l (λ p. cond (eqb p q) (ring_list s p ++ n ∷ []) (ring_list s p))
-joined_rings s k l n q m e ln lp b h f i j kn kp en ep p o =
-    let t = before_end s q h in
-    let v = t.1 in
-    let N = at s.links.next in let P = at s.links.prev in
-    let len : length (set s.links.next (P (end_of q)) n) ≡ places = rw length-set ln in
-    let lem : length (set s.links.prev n (P (end_of q))) ≡ places = rw length-set lp in
-    joined_ring N P (at l.next) (at l.prev) n q b
+-- as the code does it: linked after the last of ring q, and before its end
+pub joined_rings : (s : Rings) (k l : Links) (n q : ℕ) → n < interrupts → q < 32 → ((p : ℕ) → p < 32 → has n (ring_list s p) ≡ false) →
+    (m e b : ℕ) → m ≡ n → e ≡ end_of q → b ≡ prev_of s.links e →
+    next_of k ≡ put b m (next_of s.links) → prev_of k ≡ put m b (prev_of s.links) → next_of l ≡ put m e (next_of k) → prev_of l ≡ put e m (prev_of k) →
+    Each l (λ p. cond (eqb p q) (ring_list s p ++ n ∷ []) (ring_list s p))
+joined_rings s k l n q named h f m e b i j v kn kp ln lp p o =
+    let N = next_of s.links in let P = prev_of s.links in
+    joined_ring N P (next_of l) (prev_of l) n q named
     (record {
-      back = t.0;
-      next = λ z. let u = at_set (set s.links.next (P (end_of q)) n) n (end_of q) z (omega arith) in let w = at_set s.links.next (P (end_of q)) n z (omega arith) in rw en (rw kn (rw i (rw j (rw u (rw w)))));
-      prev = λ z. let u = at_set (set s.links.prev n (P (end_of q))) (end_of q) n z (omega arith) in let w = at_set s.links.prev n (P (end_of q)) z (omega arith) in rw ep (rw kp (rw i (rw j (rw u (rw w)))));
+      back = last_link N P (end_of q) (end_of q) _ (each s q h).linked;
+      next = λ z. rw ln (rw kn (rw v (rw i (rw j))));
+      prev = λ z. rw lp (rw kp (rw v (rw i (rw j))));
     })
     p (ring_list s p) (f p o) (each s p o)
 
@@ -149,7 +133,7 @@ first_named N P a [] b l u h (Some i) o = absurd (let e = l.0 in let f = o.0 in 
 first_named N P a (x ∷ xs) b l u h None o = absurd (let e = l.0 in let f = h x (grind (arith, nat_tests)) in omega arith)
 first_named N P a (x ∷ xs) b l u h (Some i) o = ap Some (o.1 ∙ l.0)
 
-pub front_is : (s : Rings) (q : ℕ) → q < 32 → (o : Option InterruptId) → MatchOption o (interrupts ≤ at s.links.next (end_of q)) (λ i. (at s.links.next (end_of q) < interrupts) × (id_of i ≡ at s.links.next (end_of q))) → option_map id_of o ≡ first (ring_list s q)
+pub front_is : (s : Rings) (q : ℕ) → q < 32 → (o : Option InterruptId) → MatchOption o (interrupts ≤ next_of s.links (end_of q)) (λ i. (next_of s.links (end_of q) < interrupts) × (id_of i ≡ next_of s.links (end_of q))) → option_map id_of o ≡ first (ring_list s q)
 front_is s q h o c =
     let r = each s q h in
-    first_named (at s.links.next) (at s.links.prev) (end_of q) (ring_list s q) (end_of q) r.linked (omega arith) r.named o c
+    first_named (next_of s.links) (prev_of s.links) (end_of q) (ring_list s q) (end_of q) r.linked (omega arith) r.named o c

@@ -1,20 +1,21 @@
 -- What joining and leaving do to the waiting order.
-use Rattle.std.proofs.Common.{◌≡◌, ℕ, zero, suc, ◌<◌, Bool, true, false, cond, ◌&&◌, eqb, List, [], ◌∷◌, ◌++◌, length, get_or, set, replicate, is_some, Some, None, Option, sym, refl, ap, ◌∙◌, arith, length-set, get_or-set_other, get_or-set_same}
-use Rattle.std.proofs.lemmas.List.{get_or_default}
+use Rattle.std.proofs.Common.{◌≡◌, ℕ, zero, suc, ◌<◌, Bool, true, false, cond, ◌&&◌, eqb, List, [], ◌∷◌, ◌++◌, length, set, replicate, is_some, Some, None, Option, sym, refl, ap, ◌∙◌, arith, length-set}
 use Rattle.std.proofs.lemmas.Bool.Decides.{nat_tests}
 use Rattle.interrupt.specs.Lists.{has, without, those}
 use Rattle.interrupt.specs.Meaning.{id_of}
+use Rattle.interrupt.specs.Sets.{put}
 use Rattle.interrupt.specs.declared.id.InterruptId.{InterruptId}
 use Rattle.interrupt.specs.declared.priority.Priority.{Priority}
 use Rattle.waiting.specs.Levels.{level_of, given, level_at}
-use Rattle.waiting.specs.Links.{interrupts}
+use Rattle.waiting.specs.Places.{interrupts}
 use Rattle.waiting.specs.Order.{waiting_list, waits_at}
 use Rattle.waiting.specs.Queues.{queue}
 use Rattle.waiting.specs.Rings.{ring_list}
 use Rattle.waiting.specs.declared.order.WaitingOrder.{WaitingOrder}
 use Rattle.waiting.specs.declared.queues.Queues.{Queues}
 use Rattle.waiting.specs.declared.rings.Rings.{Rings}
-use Rattle.waiting.proofs.Lists.{has_push, has_without, has_those, of_priority_push, of_priority_without}
+use Rattle.waiting.proofs.Tables.{column, read_at, read_set}
+use Rattle.waiting.proofs.Lists.{has_push, has_without, has_those, without_none, of_priority_push, of_priority_without}
 
 -- the priorities
 
@@ -22,32 +23,16 @@ pub level_below : (o : Option Priority) → is_some o ≡ true → level_of o < 
 level_below None h = absurd (let z : ◌≡◌ {A = ℕ} 0 1 = cc in omega arith)
 level_below (Some p) h = p.known
 
--- what the code reads at the place i of an interrupt
-pub read : (w : WaitingOrder) (id : InterruptId) (i : ℕ) (d : Option Priority) → i ≡ id_of id → get_or w.priorities i d ≡ get_or w.priorities (id_of id) None
-read w id i d e =
-    let h = id.named in let l = w.sized in
-    ap (λ (k : ℕ). get_or w.priorities k d) e ∙ get_or_default w.priorities (id_of id) d None (omega arith)
-
--- what it leaves where it writes o there
+-- what the code leaves at the place i of an interrupt where it writes o there
 module _ (w : WaitingOrder) (id : InterruptId) (i : ℕ) (o : Option Priority) (same : i ≡ id_of id) where
-  written : (m : ℕ) → get_or (set w.priorities i o) m None ≡ cond (eqb m (id_of id)) o (get_or w.priorities m None)
-  written m =
-      let h = id.named in let l = w.sized in
-      let a = get_or-set_same w.priorities i o None (omega arith) in let b = get_or-set_other w.priorities i m o None in grind (arith, nat_tests)
+  written : {B : Type 0} → (f : Option Priority → B) → column f (set w.priorities i o) None ≡ put (id_of id) (f o) (column f w.priorities None)
+  written f = let h = id.named in let l = w.sized in read_set f w.priorities (id_of id) i o None same (omega arith)
 
   pub level_written : (m : ℕ) → level_at (set w.priorities i o) m ≡ cond (eqb m (id_of id)) (level_of o) (level_at w.priorities m)
-  level_written m = ap level_of (written m) ∙ pick (eqb m (id_of id))
-    where
-      pick : (t : Bool) → level_of (cond t o (get_or w.priorities m None)) ≡ cond t (level_of o) (level_at w.priorities m)
-      pick true = refl
-      pick false = refl
+  level_written m = ap (λ (f : ℕ → ℕ). f m) (written level_of)
 
   given_written : (m : ℕ) → given (set w.priorities i o) m ≡ cond (eqb m (id_of id)) (is_some o) (given w.priorities m)
-  given_written m = ap is_some (written m) ∙ pick (eqb m (id_of id))
-    where
-      pick : (t : Bool) → is_some (cond t o (get_or w.priorities m None)) ≡ cond t (is_some o) (given w.priorities m)
-      pick true = refl
-      pick false = refl
+  given_written m = ap (λ (f : ℕ → Bool). f m) (written is_some)
 
 -- the ghost fields, of arrivals a, queues q and priorities ps
 abbrev pub Kept : Rings → Queues → List (Option Priority) → Type 0
@@ -105,3 +90,6 @@ take_out_kept w id i a q e b c = (
   λ m. let x = has_without m (id_of id) (ring_list w.arrivals 0) in let z = given_written w id i None e m in let k = ap (has m) (b 0 (omega arith)) in let j = w.noted m in grind (arith, nat_tests),
   rw length-set w.sized,
 )
+
+-- what the calls of the waiting order go by
+pub ruleset order_laws = (without_none, read_at, level_below, level_written, has_queue, in_no_ring)

@@ -1,5 +1,6 @@
 pub mod Levels
 pub mod Links
 pub mod Order
+pub mod Places
 pub mod Queues
 pub mod Rings

@@ -1,22 +1,21 @@
 -- Rings of links: the place after each place, next, and the place before it, prev.
-use Rattle.std.specs.Prelude.{◌≡◌, ℕ, zero, suc, ◌+◌, ◌<◌, Bool, true, cond, not, ◌&&◌, List, [], ◌∷◌, ◌==◌, slice_index}
+use Rattle.std.specs.Prelude.{◌≡◌, ℕ, zero, suc, ◌<◌, Bool, true, cond, not, ◌&&◌, List, [], ◌∷◌, ◌==◌, slice_index_or}
+use Rattle.std.proofs.Common.{lit<}
 use Rattle.interrupt.specs.Lists.{has}
+use Rattle.waiting.specs.Places.{interrupts, end_of}
+use Rattle.waiting.specs.declared.links.Link.{Link}
+use Rattle.waiting.specs.declared.links.Links.{Links}
 
--- how many interrupts there are; the place of each is its number
-abbrev pub interrupts : ℕ
-interrupts = 1020
+-- what stands past the last place
+abbrev pub no_link : Link
+no_link = record { next = record { number = 0; within = lit< tt }; prev = record { number = 0; within = lit< tt } }
 
--- how many places there are: after the interrupts' come the ends of the 32 rings
-abbrev pub places : ℕ
-places = interrupts + 32
+-- what comes after place i, and what before it
+unfoldable pub next_of : Links → ℕ → ℕ
+next_of l i = (slice_index_or l.links i no_link).next.number
 
--- the end of ring p, which stands before its first and after its last
-abbrev pub end_of : ℕ → ℕ
-end_of p = interrupts + p
-
--- what a table has at place i
-abbrev pub at : List ℕ → ℕ → ℕ
-at xs i = slice_index xs i
+unfoldable pub prev_of : Links → ℕ → ℕ
+prev_of l i = (slice_index_or l.links i no_link).prev.number
 
 -- what comes after a, up to the place `end`, and at most k of it
 unfoldable pub walk : (ℕ → ℕ) → ℕ → ℕ → ℕ → List ℕ
@@ -38,13 +37,13 @@ apart [] = true
 apart (x ∷ xs) = not (has x xs) && apart xs
 
 -- each ring is linked both ways
-abbrev pub Linked : List ℕ → List ℕ → Type 0
-Linked next prev = (p : ℕ) → p < 32 → chained (at next) (at prev) (end_of p) (ring (at next) p) (end_of p) ≡ true
+abbrev pub Linked : Links → Type 0
+Linked l = (p : ℕ) → p < 32 → chained (next_of l) (prev_of l) (end_of p) (ring (next_of l) p) (end_of p) ≡ true
 
 -- none is in a ring twice
-abbrev pub Once : List ℕ → Type 0
-Once next = (p : ℕ) → p < 32 → apart (ring (at next) p) ≡ true
+abbrev pub Once : Links → Type 0
+Once l = (p : ℕ) → p < 32 → apart (ring (next_of l) p) ≡ true
 
 -- whoever is in a ring is an interrupt
-abbrev pub Named : List ℕ → Type 0
-Named next = (p : ℕ) → p < 32 → (x : ℕ) → has x (ring (at next) p) ≡ true → x < interrupts
+abbrev pub Named : Links → Type 0
+Named l = (p : ℕ) → p < 32 → (x : ℕ) → has x (ring (next_of l) p) ≡ true → x < interrupts

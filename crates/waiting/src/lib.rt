@@ -3,5 +3,6 @@
 
 mod links;
 pub mod order;
+mod place;
 mod queues;
 mod rings;

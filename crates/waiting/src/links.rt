@@ -1,58 +1,75 @@
-// Links between places, each with the place after it and the place before it. Each interrupt has the place of its number,
-// and after the interrupts' places come the ends of the rings, one for each priority.
-ghost use Rattle.std.specs.Prelude.{◌≡◌, ℕ, ◌<◌, slice_set};
-ghost use Rattle.waiting.specs.Links.{places, at, end_of};
+// Links between places: the place after each place, and the place before it. In an array, since memory is fixed and each step
+// takes constant time.
+ghost use Rattle.std.specs.Prelude.{◌≡◌, ℕ, ◌<◌};
+ghost use Rattle.interrupt.specs.Sets.{put};
+ghost use Rattle.waiting.specs.Places.{places};
+ghost use Rattle.waiting.specs.Links.{next_of, prev_of};
 
-use interrupt::id::COUNT;
-use interrupt::priority::{LEVELS, Priority};
+use crate::place::{PLACES, Place};
+use std::array;
 
-pub const PLACES: usize = COUNT + LEVELS as usize;
+// The neighbours of one place.
+#[derive(Clone, Copy)]
+pub struct Link {
+    pub next: Place,
+    pub prev: Place,
+}
+
+impl Link {
+    // Before the rings have anyone, each place comes after itself.
+    fn to_itself(place: Place) -> Link
+        ensures next { result.next.number ≡ place.number }
+        ensures prev { result.prev.number ≡ place.number }
+    {
+        Link {
+            next: place,
+            prev: place,
+        }
+    }
+}
 
 #[derive(Drop)]
 pub struct Links {
-    pub next: [u16; PLACES],
-    pub prev: [u16; PLACES],
+    links: [Link; PLACES],
 }
 
 impl Links {
     // Each place linked to itself.
     pub(crate) fn new() -> Links
-        ensures next { (i : ℕ) → i < places → at result.next i ≡ i }
-        ensures prev { (i : ℕ) → i < places → at result.prev i ≡ i }
+        ensures next { (i : ℕ) → i < places → next_of result i ≡ i }
+        ensures prev { (i : ℕ) → i < places → prev_of result i ≡ i }
     {
         Links {
-            next: own_places(),
-            prev: own_places(),
+            links: array::from_fn(
+                |i|
+                    requires { i < places }
+                { Link::to_itself(Place { number: i as u16 }) },
+            ),
         }
     }
 
-    // `after` comes after `before`.
-    pub(crate) fn link(&mut self, before: u16, after: u16)
-        requires before_lt_places { before < places }
-        requires after_lt_places { after < places }
-        ensures next { self.new.next ≡ slice_set self.old.next before after }
-        ensures prev { self.new.prev ≡ slice_set self.old.prev after before }
+    // The place after this one.
+    #[tactic(auto, using(crate::proofs::Tables::read_at), unfolding(crate::specs::Links::next_of))]
+    pub(crate) fn after(&self, place: Place) -> Place
+        ensures { result.number ≡ next_of self.now place.number }
     {
-        self.next[before as usize] = after;
-        self.prev[after as usize] = before;
+        self.links[usize::from(place.number)].next
     }
-}
 
-// Each place's own number.
-fn own_places() -> [u16; PLACES]
-    ensures { (i : ℕ) → i < places → at result i ≡ i }
-{
-    let mut a = [0u16; PLACES];
-    for i in 0..PLACES as u16 {
-        a[i as usize] = i;
+    // The place before this one.
+    #[tactic(auto, using(crate::proofs::Tables::read_at), unfolding(crate::specs::Links::prev_of))]
+    pub(crate) fn before(&self, place: Place) -> Place
+        ensures { result.number ≡ prev_of self.now place.number }
+    {
+        self.links[usize::from(place.number)].prev
     }
-    a
-}
 
-// The end of the ring of this priority.
-pub(crate) fn end_of(priority: Priority) -> u16
-    ensures value { result ≡ end_of priority.level }
-    ensures within { result < places }
-{
-    COUNT as u16 + u16::from(priority.level())
+    // `after` comes after `before`.
+    pub(crate) fn link(&mut self, before: Place, after: Place)
+        ensures next { next_of self.new ≡ put before.number after.number (next_of self.old) }
+        ensures prev { prev_of self.new ≡ put after.number before.number (prev_of self.old) }
+    {
+        self.links[usize::from(before.number)].next = after;
+        self.links[usize::from(after.number)].prev = before;
+    }
 }

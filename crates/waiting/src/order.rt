@@ -2,7 +2,7 @@
 ghost use Rattle.std.specs.Prelude.{◌≡◌, ℕ, suc, ◌<◌, [], length, nat_eq};
 ghost use Rattle.interrupt.specs.Lists.{has, those};
 ghost use Rattle.waiting.specs.Levels.{given, level_at};
-ghost use Rattle.waiting.specs.Links.{interrupts};
+ghost use Rattle.waiting.specs.Places.{interrupts};
 ghost use Rattle.waiting.specs.Queues.{queue};
 ghost use Rattle.waiting.specs.Rings.{ring_list};
 
@@ -19,7 +19,7 @@ pub struct WaitingOrder {
     arrivals: Rings,
     // those at each priority
     queues: Queues,
-    // the priority at which each interrupt waits, if it does
+    // the priority at which each interrupt waits, if it does; an array, since memory is fixed
     priorities: [Option<Priority>; COUNT],
     // of the rings of arrivals only the first is used
     ghost single: { (p : ℕ) → p < 31 → ring_list arrivals (suc p) ≡ [] },

@@ -8,7 +8,7 @@ mod linking;
 #[derive(Drop)]
 pub struct Rings {
     links: Links,
-    ghost linked: { Linked links.next links.prev },
-    ghost once: { Once links.next },
-    ghost named: { Named links.next },
+    ghost linked: { Linked links },
+    ghost once: { Once links },
+    ghost named: { Named links },
 }

@@ -20,16 +20,12 @@ fn equals_keep_their_order(rt: HostRuntime) -> Result<(), Fail> {
 }
 
 fn named(number: u32) -> Result<InterruptId, Fail> {
-    match InterruptId::new(number) {
-        Some(id) => Ok(id),
-        None => Err(Fail::new("no such interrupt")),
-    }
+    InterruptId::new(number).ok_or_else(|| Fail::new("no such interrupt"))
 }
 
 // Whether this number is the first at the highest priority.
 fn starts_with(order: &WaitingOrder, number: u16) -> bool {
-    match order.front(Priority::HIGHEST) {
-        Some(id) => id.number() == number,
-        None => false,
-    }
+    order
+        .front(Priority::HIGHEST)
+        .is_some_and(|id| id.number() == number)
 }

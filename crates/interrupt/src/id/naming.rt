@@ -8,7 +8,7 @@ impl InterruptId {
     // the interrupt of number 0
     pub const FIRST: InterruptId = InterruptId { number: 0 };
 
-    // The interrupt of this number, or none above 1019.
+    // The interrupt of this number, or none above 1019. Each caller has a refusal of its own for none, so this is no TryFrom.
     pub fn new(number: u32) -> Option<InterruptId>
         ensures { MatchOption result (1020 ≤ number) (λ i. (number < 1020) × (id_of i ≡ number)) }
     {

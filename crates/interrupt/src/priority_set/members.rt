@@ -1,6 +1,6 @@
 // Which priorities are in a set.
 ghost use Rattle.std.specs.Prelude.{◌≡◌, true, false};
-ghost use Rattle.interrupt.specs.Meaning.{members};
+ghost use Rattle.interrupt.specs.Meaning.{members, level_or};
 ghost use Rattle.interrupt.specs.Sets.{lowest, member, put, word_of};
 
 use super::PrioritySet;
@@ -15,20 +15,6 @@ impl PrioritySet {
         PrioritySet { word: no_bits() }
     }
 
-    // The set of the priorities whose bits are set.
-    pub fn from_word(word: u32) -> PrioritySet
-        ensures { members result ≡ member word }
-    {
-        PrioritySet { word }
-    }
-
-    // The word in which the bits of its priorities are set.
-    pub fn word(self) -> u32
-        ensures { result ≡ word_of 32 (members self) }
-    {
-        bits_word(self.word)
-    }
-
     pub fn insert(&mut self, p: Priority)
         ensures { members self.new ≡ put p.level true (members self.old) }
     {
@@ -41,10 +27,28 @@ impl PrioritySet {
         self.word = without_bit(self.word, p);
     }
 
-    // The lowest priority number in the set, and 32 where it is empty.
-    pub fn lowest(self) -> u32
-        ensures { result ≡ lowest 32 (members self) }
+    // The lowest priority in the set, if it has any.
+    pub fn lowest(self) -> Option<Priority>
+        ensures { level_or result 32 ≡ lowest 32 (members self) }
     {
-        lowest_bit(self.word)
+        Priority::new(lowest_bit(self.word))
+    }
+}
+
+// The set of the priorities whose bits are set.
+impl From<u32> for PrioritySet {
+    ghost from_gives = { λ word set. members set ≡ member word };
+
+    fn from(word: u32) -> PrioritySet {
+        PrioritySet { word }
+    }
+}
+
+// The word in which the bits of its priorities are set.
+impl From<PrioritySet> for u32 {
+    ghost from_gives = { λ set word. word ≡ word_of 32 (members set) };
+
+    fn from(set: PrioritySet) -> u32 {
+        bits_word(set.word)
     }
 }

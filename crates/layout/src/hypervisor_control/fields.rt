@@ -11,16 +11,13 @@ use refusal::Refusal;
 fn packed(live: bool, stray: StrayCount) -> u32
     ensures { result ≡ control_word live stray.count }
 {
-    (stray.number() as u32) << 27 | live as u32
+    u32::from(stray.number()) << 27 | u32::from(live)
 }
 
 fn stray_in(word: u32) -> StrayCount
     ensures { result.count ≡ control_stray word }
 {
-    match StrayCount::new(bits(word, 31, 27)) {
-        Some(count) => count,
-        None => unreachable(),
-    }
+    StrayCount::new(bits(word, 31, 27)).unwrap()
 }
 
 impl HypervisorControl {
@@ -30,16 +27,6 @@ impl HypervisorControl {
         HypervisorControl {
             word: packed(live, stray),
         }
-    }
-
-    // The word, if it is in its layout.
-    pub fn from_word(word: u32) -> Result<HypervisorControl, Refusal>
-        ensures { MatchResult result (λ c. (control_layout word ≡ true) × (c.word ≡ word)) (λ e. (control_layout word ≡ false) × (e ≡ BadLayout)) }
-    {
-        if packed(is_set(word, 0), stray_in(word)) != word {
-            return Err(Refusal::BadLayout);
-        }
-        Ok(HypervisorControl { word })
     }
 
     pub fn is_live(self) -> bool
@@ -53,10 +40,27 @@ impl HypervisorControl {
     {
         stray_in(self.word)
     }
+}
 
-    pub fn word(self) -> u32
-        ensures { result ≡ control_word (control_live self.word) (control_stray self.word) }
-    {
-        self.word
+// The word, if it is in its layout.
+impl TryFrom<u32> for HypervisorControl {
+    type Error = Refusal;
+
+    ghost try_from_gives = { λ word r. MatchResult r (λ c. (control_layout word ≡ true) × (c.word ≡ word)) (λ e. (control_layout word ≡ false) × (e ≡ BadLayout)) };
+
+    fn try_from(word: u32) -> Result<HypervisorControl, Refusal> {
+        if packed(is_set(word, 0), stray_in(word)) != word {
+            return Err(Refusal::BadLayout);
+        }
+        Ok(HypervisorControl { word })
+    }
+}
+
+// The word is that of its fields.
+impl From<HypervisorControl> for u32 {
+    ghost from_gives = { λ c word. word ≡ control_word (control_live c.word) (control_stray c.word) };
+
+    fn from(control: HypervisorControl) -> u32 {
+        control.word
     }
 }

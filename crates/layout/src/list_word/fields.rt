@@ -8,12 +8,13 @@ use super::ListWord;
 use crate::bits::bits;
 use list_register::entry::{Entry, RawEntry};
 use refusal::Refusal;
-use register_file::search::ListRegister;
+use register_file::search::{ListRegister, MadeOfEntry};
 
 fn packed(entry: Entry) -> u32
     ensures { result ≡ entry_word (entry_of entry) }
 {
-    entry.state.number() << 28 | (entry.priority.level() as u32) << 23 | entry.id.number() as u32
+    u32::from(entry.state) << 28
+        | (u32::from(entry.priority.level()) << 23 | u32::from(entry.id.number()))
 }
 
 fn fields_in(word: u32) -> RawEntry
@@ -26,32 +27,38 @@ fn fields_in(word: u32) -> RawEntry
     }
 }
 
-impl ListWord {
-    // The word of an entry. Its fields are the entry's again.
-    pub fn of(entry: Entry) -> ListWord
-        ensures { PacksEntry (entry_of entry) result.word }
-    {
+// The word of an entry. Its fields are the entry's again.
+impl From<Entry> for ListWord {
+    ghost from_gives = { λ entry w. PacksEntry (entry_of entry) w.word };
+
+    fn from(entry: Entry) -> ListWord {
         ListWord {
             word: packed(entry),
         }
     }
+}
 
-    // The word, if it is in its layout.
-    pub fn from_word(word: u32) -> Result<ListWord, Refusal>
-        ensures { MatchResult result (λ w. (entry_layout word ≡ true) × (w.word ≡ word)) (λ e. (entry_layout word ≡ false) × (e ≡ BadLayout)) }
-    {
-        let entry = Entry::new(fields_in(word))?;
+// The word, if it is in its layout.
+impl TryFrom<u32> for ListWord {
+    type Error = Refusal;
+
+    ghost try_from_gives = { λ word r. MatchResult r (λ w. (entry_layout word ≡ true) × (w.word ≡ word)) (λ e. (entry_layout word ≡ false) × (e ≡ BadLayout)) };
+
+    fn try_from(word: u32) -> Result<ListWord, Refusal> {
+        let entry = Entry::try_from(fields_in(word))?;
         if packed(entry) != word {
             return Err(Refusal::BadLayout);
         }
         Ok(ListWord { word })
     }
+}
 
-    // The word is that of its entry.
-    pub fn word(self) -> u32
-        ensures { result ≡ entry_word (entry_in self.word) }
-    {
-        self.word
+// The word is that of its entry.
+impl From<ListWord> for u32 {
+    ghost from_gives = { λ w word. word ≡ entry_word (entry_in w.word) };
+
+    fn from(list: ListWord) -> u32 {
+        list.word
     }
 }
 
@@ -59,9 +66,10 @@ impl ListRegister for ListWord {
     ghost held = { λ w. entry_in w.word };
 
     fn entry(self) -> Entry {
-        match Entry::new(fields_in(self.word)) {
-            Ok(entry) => entry,
-            Err(_) => unreachable(),
-        }
+        Entry::try_from(fields_in(self.word)).unwrap()
     }
+}
+
+impl MadeOfEntry for ListWord {
+    ghost made = { λ e w packs. packs.back };
 }

@@ -1,7 +1,6 @@
 // Its fields: bits 31:27 the mask, bit 9 split, bit 0 open; 23:21 hold 2 and 20:18 hold 3, the others zero.
 ghost use Rattle.std.specs.Prelude.{◌≡◌, true, false, MatchResult};
 ghost use Rattle.refusal.specs.declared.Refusal.TheVariants.{BadLayout};
-ghost use Rattle.interrupt.specs.Cpu.{by_mode};
 ghost use Rattle.layout.specs.Layouts.{machine_word, machine_mask, machine_mode, machine_open, machine_layout, PacksMachine};
 
 use super::MachineControl;
@@ -13,38 +12,22 @@ use refusal::Refusal;
 // the fields that never change: 2 in bits 23:21, 3 in bits 20:18
 const BINARY_POINTS: u32 = 2 << 21 | 3 << 18;
 
-fn split_bit(mode: EoiMode) -> u32
-    ensures { result ≡ by_mode mode 0 1 }
-{
-    match mode {
-        EoiMode::Joined => 0,
-        EoiMode::Split => 1,
-    }
-}
-
 fn packed(mask: Priority, mode: EoiMode, open: bool) -> u32
     ensures { result ≡ machine_word mask.level mode «open» }
 {
-    (mask.level() as u32) << 27 | BINARY_POINTS | split_bit(mode) << 9 | open as u32
+    u32::from(mask.level()) << 27 | (BINARY_POINTS | ((mode as u32) << 9 | u32::from(open)))
 }
 
 fn mask_in(word: u32) -> Priority
     ensures { result.level ≡ machine_mask word }
 {
-    match Priority::new(bits(word, 31, 27)) {
-        Some(mask) => mask,
-        None => unreachable(),
-    }
+    Priority::new(bits(word, 31, 27)).unwrap()
 }
 
 fn mode_in(word: u32) -> EoiMode
     ensures { result ≡ machine_mode word }
 {
-    if is_set(word, 9) {
-        EoiMode::Split
-    } else {
-        EoiMode::Joined
-    }
+    EoiMode::from(is_set(word, 9))
 }
 
 impl MachineControl {
@@ -54,16 +37,6 @@ impl MachineControl {
         MachineControl {
             word: packed(mask, mode, open),
         }
-    }
-
-    // The word, if it is in its layout.
-    pub fn from_word(word: u32) -> Result<MachineControl, Refusal>
-        ensures { MatchResult result (λ c. (machine_layout word ≡ true) × (c.word ≡ word)) (λ e. (machine_layout word ≡ false) × (e ≡ BadLayout)) }
-    {
-        if packed(mask_in(word), mode_in(word), is_set(word, 0)) != word {
-            return Err(Refusal::BadLayout);
-        }
-        Ok(MachineControl { word })
     }
 
     pub fn mask(self) -> Priority
@@ -83,10 +56,27 @@ impl MachineControl {
     {
         is_set(self.word, 0)
     }
+}
 
-    pub fn word(self) -> u32
-        ensures { result ≡ machine_word (machine_mask self.word) (machine_mode self.word) (machine_open self.word) }
-    {
-        self.word
+// The word, if it is in its layout.
+impl TryFrom<u32> for MachineControl {
+    type Error = Refusal;
+
+    ghost try_from_gives = { λ word r. MatchResult r (λ c. (machine_layout word ≡ true) × (c.word ≡ word)) (λ e. (machine_layout word ≡ false) × (e ≡ BadLayout)) };
+
+    fn try_from(word: u32) -> Result<MachineControl, Refusal> {
+        if packed(mask_in(word), mode_in(word), is_set(word, 0)) != word {
+            return Err(Refusal::BadLayout);
+        }
+        Ok(MachineControl { word })
+    }
+}
+
+// The word is that of its fields.
+impl From<MachineControl> for u32 {
+    ghost from_gives = { λ c word. word ≡ machine_word (machine_mask c.word) (machine_mode c.word) (machine_open c.word) };
+
+    fn from(control: MachineControl) -> u32 {
+        control.word
     }
 }

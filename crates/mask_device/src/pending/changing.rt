@@ -1,13 +1,14 @@
 // Registers that become pending, or no longer are, and which of them comes first.
-ghost use Rattle.std.specs.Prelude.{◌≡◌, ℕ, ◌<◌, true, false, if◌then◌else◌, MatchOption, nat_eq};
+ghost use Rattle.std.specs.Prelude.{◌≡◌, ℕ, ◌<◌, true, false, if◌then◌else◌, nat_eq};
 ghost use Rattle.interrupt.specs.Meaning.{members};
 ghost use Rattle.interrupt.specs.Sets.{some};
 ghost use Rattle.list_register.specs.Shown.{entry_of};
 ghost use Rattle.register_file.specs.Registers.{pending_entry};
+ghost use Rattle.mask_device.specs.Highest.{Highest};
 ghost use Rattle.mask_device.specs.Pending.{pending_in, Replaced};
 
 use super::{LEVELS, PendingSets};
-use crate::register_set::RegisterSet;
+use crate::register_set::{Place, RegisterSet};
 use interrupt::priority::Priority;
 use interrupt::priority_set::PrioritySet;
 use list_register::entry::Entry;
@@ -32,27 +33,25 @@ impl PendingSets {
 
     // The highest register that is pending at this priority.
     pub(crate) fn highest(&self, priority: Priority) -> Option<usize>
-        ensures { MatchOption result ((k : ℕ) → pending_in self.now priority.level k ≡ false) (λ k. (k < 64) × (pending_in self.now priority.level k ≡ true) × ((q : ℕ) → k < q → pending_in self.now priority.level q ≡ false)) }
+        ensures { Highest (pending_in self.now priority.level) result }
     {
-        self.sets[priority.level() as usize].highest()
+        self.sets[usize::from(priority.level())].highest()
     }
 
     // A register is pending at this priority.
-    fn insert(&mut self, priority: Priority, register: usize)
-        requires { register < 64 }
-        ensures { Replaced priority.level register true (pending_in self.old) (pending_in self.new) }
+    fn insert(&mut self, priority: Priority, register: Place)
+        ensures { Replaced priority.level register.index true (pending_in self.old) (pending_in self.new) }
     {
-        let p = priority.level() as usize;
+        let p = usize::from(priority.level());
         self.sets[p] = self.sets[p].with(register);
         self.levels.insert(priority);
     }
 
     // A register is no longer pending at this priority.
-    fn remove(&mut self, priority: Priority, register: usize)
-        requires { register < 64 }
-        ensures { Replaced priority.level register false (pending_in self.old) (pending_in self.new) }
+    fn remove(&mut self, priority: Priority, register: Place)
+        ensures { Replaced priority.level register.index false (pending_in self.old) (pending_in self.new) }
     {
-        let p = priority.level() as usize;
+        let p = usize::from(priority.level());
         let left = self.sets[p].without(register);
         self.sets[p] = left;
         if left.is_empty() {
@@ -61,10 +60,9 @@ impl PendingSets {
     }
 
     // A register that held this entry is pending at no priority.
-    pub(crate) fn leave(&mut self, register: usize, old: Entry)
-        requires within { register < 64 }
-        requires was { (p : ℕ) → pending_in self.old p register ≡ pending_entry (entry_of old) p }
-        ensures { (p k : ℕ) → pending_in self.new p k ≡ (if nat_eq k register then false else pending_in self.old p k) }
+    pub(crate) fn leave(&mut self, register: Place, old: Entry)
+        requires { (p : ℕ) → pending_in self.old p register.index ≡ pending_entry (entry_of old) p }
+        ensures { (p k : ℕ) → pending_in self.new p k ≡ (if nat_eq k register.index then false else pending_in self.old p k) }
     {
         if old.state.is_pending() {
             self.remove(old.priority, register);
@@ -72,10 +70,9 @@ impl PendingSets {
     }
 
     // A register that was pending at no priority holds this entry.
-    pub(crate) fn enter(&mut self, register: usize, new: Entry)
-        requires within { register < 64 }
-        requires was { (p : ℕ) → pending_in self.old p register ≡ false }
-        ensures { (p k : ℕ) → pending_in self.new p k ≡ (if nat_eq k register then pending_entry (entry_of new) p else pending_in self.old p k) }
+    pub(crate) fn enter(&mut self, register: Place, new: Entry)
+        requires { (p : ℕ) → pending_in self.old p register.index ≡ false }
+        ensures { (p k : ℕ) → pending_in self.new p k ≡ (if nat_eq k register.index then pending_entry (entry_of new) p else pending_in self.old p k) }
     {
         if new.state.is_pending() {
             self.insert(new.priority, register);

@@ -1,19 +1,19 @@
 // The calls. None of them goes through the interrupts, so none takes longer as more of them wait.
-ghost use Rattle.std.specs.Prelude.{◌≡◌, ℕ, ◌+◌, ◌≤◌, true, not, ◌&&◌, if◌then◌else◌, nat_eq};
+ghost use Rattle.std.specs.Prelude.{◌≡◌, ℕ, ◌+◌, ◌≤◌, true, not, ◌&&◌, if◌then◌else◌, nat_eq, Ok, Err};
+ghost use Rattle.refusal.specs.declared.Refusal.TheVariants.{Parked};
 ghost use Rattle.std.specs.Option.{option_map};
 ghost use Rattle.interrupt.specs.Lists.{has};
 ghost use Rattle.interrupt.specs.Meaning.{id_of};
 ghost use Rattle.waiting.specs.Order.{waiting_list, waits_at};
 ghost use Rattle.guest.specs.Book.{start, settle, touch, first_in_turn};
 ghost use Rattle.guest.specs.Calls.{any_active};
-ghost use Rattle.guest.specs.Interrupts.{waits};
-ghost use Rattle.plain.specs.Changes.{changed, flips};
+ghost use Rattle.guest.specs.Interrupts.{Interrupt, waits};
 ghost use Rattle.interrupt.specs.Counts.{one_if};
 ghost use Rattle.plain.specs.Meaning.{book_of};
 ghost use Rattle.plain.specs.Sources.{means};
+ghost use Rattle.plain.specs.Steps.{MayTake, Takes, KeepsPriority};
 
 use super::PlainGuest;
-use crate::change::Change;
 use crate::source::Source;
 use crate::table::Table;
 use guest::interface::Guest;
@@ -67,16 +67,28 @@ impl PlainGuest {
     }
 
     // The only place where an interrupt changes: the waiting order and the count of active ones follow.
-    fn change(&mut self, id: InterruptId, change: Change) -> bool
-        ensures book { book_of self.new ≡ touch (id_of id) (changed change ((book_of self.old).at (id_of id))) (book_of self.old) }
-        ensures value { result ≡ flips change ((book_of self.old).at (id_of id)) }
+    // The step leaves the priority of an interrupt that waits.
+    fn change<R, F: FnOnce(&mut Source) -> R>(&mut self, id: InterruptId, step: F) -> R
+        requires callable { MayTake F.FnOnce step ((book_of self.old).at (id_of id)) }
+        requires priority { KeepsPriority F.FnOnce step ((book_of self.old).at (id_of id)) }
+        ensures { (i : Interrupt) × Takes F.FnOnce step ((book_of self.old).at (id_of id)) result i × (book_of self.new ≡ touch (id_of id) i (book_of self.old)) }
     {
         let was_active = self.table.get(id).is_active();
-        let flipped = self.table.change(id, change);
+        let result = self.table.change(id, step);
         let source = self.table.get(id);
         settle_order(&mut self.waiting, id, source);
         self.active = recount(self.active, was_active, source.is_active());
-        flipped
+        result
+    }
+
+    // Refuses a call that only a running guest takes.
+    fn while_running(&self) -> Result<(), Refusal>
+        ensures { result ≡ (if (book_of self.now).running then Ok tt else Err Parked) }
+    {
+        if !self.running {
+            return Err(Refusal::Parked);
+        }
+        Ok(())
     }
 
     fn any_active(&self) -> bool
@@ -97,79 +109,57 @@ impl PlainGuest {
 impl Guest for PlainGuest {
     ghost book = { book_of };
 
-    ghost sound = { λ _. Unit {0} };
-
     fn configure(&mut self, number: u32, kind: Kind, priority: u32) -> Result<(), Refusal> {
-        let Some(id) = InterruptId::new(number) else {
-            return Err(Refusal::UnknownInterrupt);
-        };
-        let Some(priority) = Priority::new(priority) else {
-            return Err(Refusal::PriorityRange);
-        };
-        if matches!(kind, Kind::Level) && number < FIRST_LEVEL {
+        let id = InterruptId::new(number).ok_or(Refusal::UnknownInterrupt)?;
+        let priority = Priority::new(priority).ok_or(Refusal::PriorityRange)?;
+        if kind == Kind::Level && number < FIRST_LEVEL {
             return Err(Refusal::WrongKind);
         }
         if !self.table.get(id).at_rest() {
             return Err(Refusal::NotAtRest);
         }
-        self.change(id, Change::Configure(kind, priority));
+        self.change(id, |source| source.configure(kind, priority));
         Ok(())
     }
 
     fn enable(&mut self, number: u32) -> Result<bool, Refusal> {
-        let Some(id) = InterruptId::new(number) else {
-            return Err(Refusal::UnknownInterrupt);
-        };
-        Ok(self.change(id, Change::Enable))
+        let id = InterruptId::new(number).ok_or(Refusal::UnknownInterrupt)?;
+        Ok(self.change(id, Source::enable))
     }
 
     fn disable(&mut self, number: u32) -> Result<bool, Refusal> {
-        let Some(id) = InterruptId::new(number) else {
-            return Err(Refusal::UnknownInterrupt);
-        };
-        Ok(self.change(id, Change::Disable))
+        let id = InterruptId::new(number).ok_or(Refusal::UnknownInterrupt)?;
+        Ok(self.change(id, Source::disable))
     }
 
     fn raise(&mut self, number: u32) -> Result<bool, Refusal> {
-        let Some(id) = InterruptId::new(number) else {
-            return Err(Refusal::UnknownInterrupt);
-        };
-        Ok(self.change(id, Change::Raise))
+        let id = InterruptId::new(number).ok_or(Refusal::UnknownInterrupt)?;
+        Ok(self.change(id, Source::raise))
     }
 
     fn lower(&mut self, number: u32) -> Result<bool, Refusal> {
-        let Some(id) = InterruptId::new(number) else {
-            return Err(Refusal::UnknownInterrupt);
-        };
-        if matches!(self.table.get(id).kind, Kind::Edge) {
+        let id = InterruptId::new(number).ok_or(Refusal::UnknownInterrupt)?;
+        if self.table.get(id).kind == Kind::Edge {
             return Err(Refusal::WrongKind);
         }
-        Ok(self.change(id, Change::Lower))
+        Ok(self.change(id, Source::lower))
     }
 
     fn mask(&mut self, level: u32) -> Result<(), Refusal> {
-        if !self.running {
-            return Err(Refusal::Parked);
-        }
-        let Some(mask) = Priority::new(level) else {
-            return Err(Refusal::PriorityRange);
-        };
+        self.while_running()?;
+        let mask = Priority::new(level).ok_or(Refusal::PriorityRange)?;
         self.cpu.mask = mask;
         Ok(())
     }
 
     fn open(&mut self, value: bool) -> Result<(), Refusal> {
-        if !self.running {
-            return Err(Refusal::Parked);
-        }
+        self.while_running()?;
         self.cpu.open = value;
         Ok(())
     }
 
     fn mode(&mut self, value: EoiMode) -> Result<(), Refusal> {
-        if !self.running {
-            return Err(Refusal::Parked);
-        }
+        self.while_running()?;
         if self.any_active() {
             return Err(Refusal::InterruptActive);
         }
@@ -178,58 +168,44 @@ impl Guest for PlainGuest {
     }
 
     fn acknowledge(&mut self) -> Result<Option<InterruptId>, Refusal> {
-        if !self.running {
-            return Err(Refusal::Parked);
-        }
+        self.while_running()?;
+        // that no one is in turn is an answer, and no failure
         let Some(id) = self.first_in_turn() else {
             return Ok(None);
         };
         let priority = self.table.get(id).priority;
-        self.change(id, Change::Acknowledge);
+        self.change(id, Source::acknowledge);
         self.cpu.active.insert(priority);
         Ok(Some(id))
     }
 
     fn end(&mut self, word: u32) -> Result<(), Refusal> {
-        if !self.running {
-            return Err(Refusal::Parked);
-        }
-        let Some(id) = InterruptId::new(word) else {
-            return Err(Refusal::UnknownWord);
-        };
+        self.while_running()?;
+        let id = InterruptId::new(word).ok_or(Refusal::UnknownWord)?;
         let source = self.table.get(id);
         let priority = source.priority;
-        if !source.is_active()
-            || source.dropped
-            || priority.level() as u32 != self.cpu.running_priority()
-        {
+        if !source.is_active() || source.dropped || self.cpu.active.lowest() != Some(priority) {
             return Err(Refusal::NotRunningPriority);
         }
         let mode = self.cpu.mode;
         self.cpu.active.remove(priority);
-        self.change(id, Change::End(mode));
+        self.change(id, |source| source.end(mode));
         Ok(())
     }
 
     fn deactivate(&mut self, word: u32) -> Result<(), Refusal> {
-        if !self.running {
-            return Err(Refusal::Parked);
-        }
-        let Some(id) = InterruptId::new(word) else {
-            return Err(Refusal::UnknownWord);
-        };
+        self.while_running()?;
+        let id = InterruptId::new(word).ok_or(Refusal::UnknownWord)?;
         let source = self.table.get(id);
-        if matches!(self.cpu.mode, EoiMode::Joined) || !source.is_active() || !source.dropped {
+        if self.cpu.mode == EoiMode::Joined || !source.is_active() || !source.dropped {
             return Err(Refusal::NotDropped);
         }
-        self.change(id, Change::Deactivate);
+        self.change(id, Source::deactivate);
         Ok(())
     }
 
     fn park(&mut self) -> Result<(), Refusal> {
-        if !self.running {
-            return Err(Refusal::Parked);
-        }
+        self.while_running()?;
         self.running = false;
         Ok(())
     }

@@ -30,10 +30,8 @@ impl RegisterDevice {
     pub fn read_word(&self, offset: u32) -> Result<u32, Refusal>
         ensures { result ≡ word_read offset (register_device self.now) }
     {
-        match Register::at(self.count, offset) {
-            Some(register) => Ok(self.word_of(register)),
-            None => Err(Refusal::UnknownRegister),
-        }
+        let register = Register::at(self.list.count(), offset).ok_or(Refusal::UnknownRegister)?;
+        Ok(self.word_of(register))
     }
 
     // Writes the word at an offset.
@@ -41,14 +39,12 @@ impl RegisterDevice {
         ensures after { register_device self.new ≡ word_written offset word (register_device self.old) }
         ensures value { result ≡ word_said offset word (register_device self.old) }
     {
-        let Some(register) = Register::at(self.count, offset) else {
-            return Err(Refusal::UnknownRegister);
-        };
+        let register = Register::at(self.list.count(), offset).ok_or(Refusal::UnknownRegister)?;
         match register {
             Register::Vtr | Register::Elrsr0 | Register::Elrsr1 => return Err(Refusal::ReadOnly),
-            Register::Hcr => self.control = HypervisorControl::from_word(word)?,
-            Register::Vmcr => self.machine = MachineControl::from_word(word)?,
-            Register::Apr => self.active = PrioritySet::from_word(word),
+            Register::Hcr => self.control = HypervisorControl::try_from(word)?,
+            Register::Vmcr => self.machine = MachineControl::try_from(word)?,
+            Register::Apr => self.active = PrioritySet::from(word),
             Register::Lr(k) => self.write_list(k, word)?,
         }
         Ok(())
@@ -71,28 +67,28 @@ impl RegisterDevice {
         ensures { result ≡ word_in (register_device self.now) register }
     {
         match register {
-            Register::Hcr => self.control.word(),
+            Register::Hcr => u32::from(self.control),
             Register::Vtr => self.type_word(),
-            Register::Vmcr => self.machine.word(),
+            Register::Vmcr => u32::from(self.machine),
             Register::Elrsr0 => self.empty_low(),
             Register::Elrsr1 => self.empty_high(),
-            Register::Apr => self.active.word(),
+            Register::Apr => u32::from(self.active),
             Register::Lr(k) => self.list_word(k),
         }
     }
 
     fn type_word(&self) -> u32
-        ensures { result ≡ type_word self.now.count }
+        ensures { result ≡ type_word self.now.list.count }
     {
-        TYPE + (self.count as u32 - 1)
+        TYPE + (u32::from(self.list.count()) - 1)
     }
 
     // The word of a list register. One that is not there reads as 0.
     fn list_word(&self, k: u8) -> u32
         ensures { result ≡ word_in (register_device self.now) (Lr k) }
     {
-        if k < self.count {
-            self.list[k as usize].word()
+        if k < self.list.count() {
+            u32::from(self.list.as_slice()[usize::from(k)])
         } else {
             0
         }
@@ -102,7 +98,7 @@ impl RegisterDevice {
     fn empty_low(&self) -> u32
         ensures { result ≡ word_of 32 (free (register_device self.now)) }
     {
-        let list = self.list();
+        let list = self.list.as_slice();
         empty_word(&list[0..list.len().min(HALF)])
     }
 
@@ -110,21 +106,22 @@ impl RegisterDevice {
     fn empty_high(&self) -> u32
         ensures { result ≡ word_of 32 (λ k. free (register_device self.now) (32 + k)) }
     {
-        let list = self.list();
+        let list = self.list.as_slice();
         empty_word(&list[list.len().min(HALF)..])
     }
 
     // Writes a list register's word.
     fn write_list(&mut self, k: u8, word: u32) -> Result<(), Refusal>
-        requires { k < self.old.count }
+        requires { k < self.old.list.count }
         ensures after { register_device self.new ≡ unless (first_row (word_rows (Some (Lr k)) word (register_device self.old))) (register_device self.old) (with_word (Lr k) word (register_device self.old)) }
         ensures value { result ≡ say (first_row (word_rows (Some (Lr k)) word (register_device self.old))) tt }
     {
-        let entry = ListWord::from_word(word)?.entry();
-        if clashes(self, k as usize, entry) {
+        let entry = ListWord::try_from(word)?.entry();
+        let place = usize::from(k);
+        if clashes(self, place, entry) {
             return Err(Refusal::DuplicateNumber);
         }
-        self.put(k as usize, entry);
+        self.put(place, entry);
         Ok(())
     }
 }

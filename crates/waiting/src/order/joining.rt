@@ -12,6 +12,7 @@ use interrupt::id::{COUNT, InterruptId};
 use interrupt::priority::Priority;
 use interrupt::priority_set::PrioritySet;
 
+#[tactic(auto, using(crate::proofs::Waiting::order_laws), unfolding(crate::specs::Order::waiting_list, crate::specs::Order::waits_at))]
 impl WaitingOrder {
     // No one waits.
     pub fn new() -> WaitingOrder

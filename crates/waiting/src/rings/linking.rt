@@ -6,7 +6,8 @@ ghost use Rattle.interrupt.specs.Meaning.{id_of};
 ghost use Rattle.waiting.specs.Rings.{ring_list};
 
 use super::Rings;
-use crate::links::{Links, end_of};
+use crate::links::Links;
+use crate::place::Place;
 use interrupt::id::InterruptId;
 use interrupt::priority::Priority;
 
@@ -24,8 +25,8 @@ impl Rings {
     pub(crate) fn front(&self, priority: Priority) -> Option<InterruptId>
         ensures { option_map id_of result ≡ first (ring_list self.now priority.level) }
     {
-        let end = end_of(priority);
-        InterruptId::new(u32::from(self.links.next[end as usize]))
+        let first = self.links.after(Place::end_of(priority));
+        InterruptId::new(u32::from(first.number))
     }
 
     // An interrupt that is in no ring becomes the last in the ring of this priority.
@@ -33,9 +34,9 @@ impl Rings {
         requires { (p : ℕ) → p < 32 → has (id_of id) (ring_list self.old p) ≡ false }
         ensures { (p : ℕ) → p < 32 → ring_list self.new p ≡ (if nat_eq p priority.level then ring_list self.old p ++ id_of id ∷ [] else ring_list self.old p) }
     {
-        let place = id.number();
-        let end = end_of(priority);
-        let last = self.links.prev[end as usize];
+        let place = Place::from(id);
+        let end = Place::end_of(priority);
+        let last = self.links.before(end);
         self.links.link(last, place);
         self.links.link(place, end);
     }
@@ -45,9 +46,9 @@ impl Rings {
         requires { (p : ℕ) × (p < 32) × (has (id_of id) (ring_list self.old p) ≡ true) }
         ensures { (p : ℕ) → p < 32 → ring_list self.new p ≡ without (id_of id) (ring_list self.old p) }
     {
-        let place = id.place();
-        let before = self.links.prev[place];
-        let after = self.links.next[place];
+        let place = Place::from(id);
+        let before = self.links.before(place);
+        let after = self.links.after(place);
         self.links.link(before, after);
     }
 }

@@ -1,26 +1,25 @@
-use Rattle.std.proofs.Common.{refl, arith}
+use Rattle.std.proofs.Common.{length, map, refl, ap, arith}
 use Rattle.trace.specs.Opening.{event_at}
-use Rattle.report.specs.Playing.{names_number, was_declined}
-use Rattle.report.proofs.Plays.{played_none, played_more, count_one}
+use Rattle.trace.proofs.Held.{length_held}
+use Rattle.report.proofs.Plays.{none_played, at_most_one, declined_is_err, one_more}
 use Rattle.report.proofs.play.play_events.Goals as goal
 
-pub loop-k-init : goal.loop-k-init
-loop-k-init g c = (c.requires.sound, played_none (g.G.Guest.book c.args.guest.now) (event_at c.args.trace.now.file.now c.args.trace.now.events) c.args.area.now)
+pub loop-placed-init : goal.loop-placed-init
+loop-placed-init g c =
+    let t = c.args.trace.now in
+    none_played _ _ _ _ _ (rw c.into_iter-placed-iterator.ensures.into_iter_gives c.events-placed-items.ensures) (length_held t.events.count (event_at t.file.now t.events))
 
-pub overflow_add-tally-in-loop-k : goal.overflow_add-tally-in-loop-k
-overflow_add-tally-in-loop-k g c =
-    let e = count_one names_number (g.G.Guest.book c.loop-k.guest) (event_at c.args.trace.now.file.now c.args.trace.now.events c.loop-k.k) in
-    omega (arith, c.play_event-one.ensures.played.acknowledged, c.loop-k.invariant.1.some_acks)
+pub overflow_add-tally-in-loop-placed : goal.overflow_add-tally-in-loop-placed
+overflow_add-tally-in-loop-placed g c =
+    omega (arith, c.from.ensures, at_most_one c.names_number.result, ap (λ ps. length (map (λ p. p.value) ps)) c.in-Some.ensures.steps, c.loop-placed.invariant.some_acks, c.args.trace.now.few)
 
-pub overflow_add-tally-in-loop-k-2 : goal.overflow_add-tally-in-loop-k-2
-overflow_add-tally-in-loop-k-2 g c =
-    let e = count_one was_declined (g.G.Guest.book c.loop-k.guest) (event_at c.args.trace.now.file.now c.args.trace.now.events c.loop-k.k) in
-    omega (arith, c.play_event-one.ensures.played.declined, c.loop-k.invariant.1.some_nos)
+pub overflow_add-tally-in-loop-placed-2 : goal.overflow_add-tally-in-loop-placed-2
+overflow_add-tally-in-loop-placed-2 g c =
+    omega (arith, c.from-in-loop-placed.ensures, at_most_one c.is_err.result, ap (λ ps. length (map (λ p. p.value) ps)) c.in-Some.ensures.steps, c.loop-placed.invariant.some_nos, c.args.trace.now.few)
 
-pub loop-k-preserved : goal.loop-k-preserved
-loop-k-preserved g c =
-    let o = c.play_event-one.ensures in (
-      o.kept,
-      played_more (g.G.Guest.book c.args.guest.now) (event_at c.args.trace.now.file.now c.args.trace.now.events) c.args.area.now c.loop-k.k _ _ _ _ _ _ _
-          c.loop-k.invariant.1 refl o.played o.bound,
-    )
+pub loop-placed-preserved : goal.loop-placed-preserved
+loop-placed-preserved g c =
+    one_more _ _ _ _ _ c.in-Some.placed.value _ _ _ _ _ _ _ _ _ _ _ c.loop-placed.invariant (ap (map (λ p. p.value)) c.in-Some.ensures.steps) c.perform-said.ensures refl
+    c.put_line.ensures.line c.put_line.ensures.bound
+    (rw (← c.names_number.ensures) c.from.ensures)
+    (rw (declined_is_err c.perform-said.result, ← c.is_err.ensures.value) c.from-in-loop-placed.ensures)

@@ -1,6 +1,9 @@
-use Rattle.report.specs.Reporting.{placed_at}
+use Rattle.records.specs.Records.{setup_of}
+use Rattle.trace.specs.Walking.{placed_in, left}
 use Rattle.report.proofs.Plays.{SetUp}
 use Rattle.report.proofs.play.play_setups.Given as goal
 
-abbrev pub invariant-loop-k : goal.invariant-loop-k
-invariant-loop-k g l = g.G.Guest.sound l.guest × SetUp (g.G.Guest.book l.initial.guest) (placed_at l.trace.file.now l.trace.setups) l.k (g.G.Guest.book l.guest)
+abbrev pub invariant-loop-placed : goal.invariant-loop-placed
+invariant-loop-placed g l =
+    let it = l.placed-iterator in
+    SetUp (g.G.Guest.book l.initial.guest) (placed_in l.trace.file.now l.trace.setups) (g.G.Guest.book l.guest) (left setup_of it.file.now it.section it.next)

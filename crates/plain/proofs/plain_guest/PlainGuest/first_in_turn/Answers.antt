@@ -9,12 +9,17 @@ use Rattle.waiting.specs.Order.{of_priority, waiting_list, waits_at}
 use Rattle.plain.specs.Meaning.{book_of}
 use Rattle.plain.proofs.Turns.{Known, nobody, not_admitted, admitted}
 use Rattle.plain.proofs.plain_guest.PlainGuest.first_in_turn.Goals as goal
+use Rattle.plain.proofs.plain_guest.PlainGuest.first_in_turn.Goals.{After-fronts}
+
+known : (c : After-fronts) → Known (book_of c.args.self.now) (waits_at c.args.self.now.waiting) (members c.fronts.result)
+known c =
+    record { shown = c.fronts.ensures.shown; within = c.fronts.ensures.within; wait = c.args.self.now.listed; own = c.args.self.now.ranked }
 
 pub returns-in_err-most_urgent : goal.returns-in_err-most_urgent
 returns-in_err-most_urgent c =
     let s = c.args.self.now in
     let f = members c.fronts.result in
-    let k : Known (book_of s) (waits_at s.waiting) f = record { shown = c.fronts.ensures.shown; within = c.fronts.ensures.within; wait = s.listed; own = s.ranked } in
+    let k = known (goal.at.returns-in_err-most_urgent c).After-fronts in
     rw c.from_residual.ensures (sym (⊎_elim
     (λ (l : lowest 32 f < 32). not_admitted (book_of s) (waits_at s.waiting) f k (first_none (cpu_of s.cpu) f (sym c.in_err-most_urgent.ensures) l))
     (λ (l : 32 ≤ lowest 32 f). nobody (book_of s) (waits_at s.waiting) f k l) (cases_lt (lowest 32 f) 32)))
@@ -23,7 +28,7 @@ pub returns : goal.returns
 returns c =
     let s = c.args.self.now in
     let f = members c.fronts.result in
-    let k : Known (book_of s) (waits_at s.waiting) f = record { shown = c.fronts.ensures.shown; within = c.fronts.ensures.within; wait = s.listed; own = s.ranked } in
+    let k = known (goal.at.returns c).After-fronts in
     let e = first_some (cpu_of s.cpu) f c.in_ok-most_urgent.most_urgent.level (sym c.in_ok-most_urgent.ensures) in
     c.front.ensures
     ∙ ap (λ (q : ℕ). first (of_priority (waits_at s.waiting) q (waiting_list s.waiting))) (sym e.0)

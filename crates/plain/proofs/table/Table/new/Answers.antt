@@ -1,7 +1,8 @@
 use Rattle.plain.specs.Table.{at_of}
 use Rattle.plain.proofs.Tables.{blanks}
+use Rattle.std.proofs.Common.{rules}
 use Rattle.plain.proofs.table.Table.new.Goals as goal
 
 pub returns : goal.returns
 unfolding at_of
-returns c = blanks c.blank.result c.blank.ensures
+returns c = search (rules, blanks)

@@ -5,5 +5,5 @@ use Rattle.register_device.proofs.device.RegisterDevice.empty_high.Goals as goal
 
 pub returns : goal.returns
 returns c =
-    let v : View c.args.self.now c.list-list.result.now = record { value = c.list-list.ensures.value; len = c.list-list.ensures.len } in
-    c.empty_word.ensures ∙ status_high c.args.self.now c.list-list.result.now c.min.result v c.min.ensures
+    let v : View c.args.self.now c.as_slice-list.result.now = record { value = c.as_slice-list.ensures.value; len = c.as_slice-list.ensures.len } in
+    c.empty_word.ensures ∙ status_high c.args.self.now c.as_slice-list.result.now c.min.result v c.min.ensures

@@ -12,15 +12,15 @@ returns-in_err-priority c =
     let d = c.args.self.now in
     let levels = members c.pending_levels.result in
     let chosen_so : Option ℕ → Type 0 = λ o. Chosen Below (register_device d) o in
-    let v : View d c.list.result.now = record { value = c.list.ensures.value; len = c.list.ensures.len } in
+    let v : View d c.as_slice.result.now = record { value = c.as_slice.ensures.value; len = c.as_slice.ensures.len } in
     subst chosen_so (sym c.from_residual.ensures)
-    (chosen_none Below (register_device d) levels (levels_in d c.list.result.now levels v c.pending_levels.ensures) (ap (λ (u : Cpu). first_admitted u levels) (sym c.settings.ensures.cpu) ∙ sym c.in_err-priority.ensures))
+    (chosen_none Below (register_device d) levels (levels_in d c.as_slice.result.now levels v c.pending_levels.ensures) (ap (λ (u : Cpu). first_admitted u levels) (sym c.settings.ensures.cpu) ∙ sym c.in_err-priority.ensures))
 
 pub returns : goal.returns
 returns c =
     let d = c.args.self.now in
     let levels = members c.pending_levels.result in
-    let v : View d c.list.result.now = record { value = c.list.ensures.value; len = c.list.ensures.len } in
-    let u : View d c.list-2.result.now = record { value = c.list-2.ensures.value; len = c.list-2.ensures.len } in
-    chosen_in d c.list-2.result.now levels c.in_ok-priority.priority.level c.first_pending.result u (levels_in d c.list.result.now levels v c.pending_levels.ensures)
+    let v : View d c.as_slice.result.now = record { value = c.as_slice.ensures.value; len = c.as_slice.ensures.len } in
+    let u : View d c.as_slice-2.result.now = record { value = c.as_slice-2.ensures.value; len = c.as_slice-2.ensures.len } in
+    chosen_in d c.as_slice-2.result.now levels c.in_ok-priority.priority.level c.first_pending.result u (levels_in d c.as_slice.result.now levels v c.pending_levels.ensures)
     (ap (λ (w : Cpu). first_admitted w levels) (sym c.settings.ensures.cpu) ∙ sym c.in_ok-priority.ensures) c.first_pending.ensures

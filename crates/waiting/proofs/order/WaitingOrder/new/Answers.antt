@@ -1,5 +1,3 @@
-use Rattle.std.proofs.Common.{arith}
-use Rattle.waiting.specs.Order.{waiting_list}
 use Rattle.waiting.proofs.Waiting.{none_kept}
 use Rattle.waiting.proofs.order.WaitingOrder.new.Goals as goal
 
@@ -7,7 +5,3 @@ pub invariant_of-result : goal.invariant_of-result
 invariant_of-result c =
     let k = none_kept c.new.result c.new-2.result c.new.ensures c.new-2.ensures in
     record { single = k.0; parted = k.1; noted = k.2; sized = k.3 }
-
-pub returns : goal.returns
-unfolding waiting_list
-returns c = c.new.ensures 0 (omega arith)

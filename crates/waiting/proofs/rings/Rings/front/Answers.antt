@@ -1,6 +1,7 @@
 use Rattle.std.proofs.Common.{◌≡◌, ℕ, ◌<◌, ◌≤◌, ap, ◌∙◌, subst, MatchOption}
 use Rattle.interrupt.specs.Meaning.{id_of}
-use Rattle.waiting.specs.Links.{interrupts, at}
+use Rattle.waiting.specs.Links.{next_of}
+use Rattle.waiting.specs.Places.{interrupts}
 use Rattle.waiting.proofs.Steps.{front_is}
 use Rattle.waiting.proofs.rings.Rings.front.Goals as goal
 
@@ -8,4 +9,4 @@ pub returns : goal.returns
 returns c =
     front_is c.args.self.now c.args.priority.level c.args.priority.known c.new.result
     (subst (λ (n : ℕ). MatchOption c.new.result (interrupts ≤ n) (λ i. (n < interrupts) × (id_of i ≡ n)))
-    (c.from.ensures ∙ ap (at c.args.self.now.links.next) c.end_of-end.ensures.value) c.new.ensures)
+    (c.from.ensures ∙ c.after-first.ensures ∙ ap (next_of c.args.self.now.links) c.end_of.ensures) c.new.ensures)

@@ -1,19 +1,17 @@
-use Rattle.std.proofs.Common.{arith}
-use Rattle.waiting.proofs.Steps.{found, sound, before_end, joined_rings}
+use Rattle.std.proofs.Common.{[], ◌∷◌, ◌++◌, cond, eqb}
+use Rattle.waiting.specs.Rings.{ring_list}
+use Rattle.waiting.proofs.Steps.{Each, found, sound, joined_rings}
 use Rattle.waiting.proofs.rings.Rings.join.Goals as goal
+use Rattle.waiting.proofs.rings.Rings.join.Goals.{After-link-2}
 
-pub link-requires : goal.link-requires
-link-requires c =
-    record {
-      before_lt_places = let e = (before_end c.args.self.now c.args.priority.level c.args.priority.known).1 in rw c.end_of-end.ensures.value e;
-      after_lt_places = omega arith;
-    }
+joined : (c : After-link-2) → Each c.link-2.new.self (λ p. cond (eqb p c.args.priority.level) (ring_list c.args.self.now p ++ c.args.id.number ∷ []) (ring_list c.args.self.now p))
+joined c =
+    joined_rings c.args.self.now c.link.new.self c.link-2.new.self c.args.id.number c.args.priority.level c.args.id.named c.args.priority.known c.requires
+    c.from-place.result.number c.end_of-end.result.number c.before-last.result.number c.from-place.ensures c.end_of-end.ensures c.before-last.ensures
+    c.link.ensures.next c.link.ensures.prev c.link-2.ensures.next c.link-2.ensures.prev
 
 pub invariant_of-self : goal.invariant_of-self
-invariant_of-self c =
-    let s = sound c.link-2.new.self _ (joined_rings c.args.self.now c.link.new.self c.link-2.new.self c.args.id.number c.args.priority.level c.number-place.result c.end_of-end.result (omega arith) (omega arith) c.args.id.named c.args.priority.known c.requires c.number-place.ensures c.end_of-end.ensures.value c.link.ensures.next c.link.ensures.prev c.link-2.ensures.next c.link-2.ensures.prev) in
-    record { linked = s.0; once = s.1; named = s.2 }
+invariant_of-self c = let s = sound c.link-2.new.self _ (joined c) in record { linked = s.0; once = s.1; named = s.2 }
 
 pub returns : goal.returns
-returns c = λ p h.
-    found _ _ p _ (joined_rings c.args.self.now c.link.new.self c.link-2.new.self c.args.id.number c.args.priority.level c.number-place.result c.end_of-end.result (omega arith) (omega arith) c.args.id.named c.args.priority.known c.requires c.number-place.ensures c.end_of-end.ensures.value c.link.ensures.next c.link.ensures.prev c.link-2.ensures.next c.link-2.ensures.prev p h)
+returns c = λ p h. found _ _ p _ (joined (goal.at.returns c).After-link-2 p h)
