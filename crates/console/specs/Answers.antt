@@ -1,5 +1,5 @@
 -- The lines of answers.
-use Rattle.std.specs.Prelude.{ℕ, zero, suc, ◌+◌, ◌/◌, ◌%◌, ◌^◌, cond, List, [], ◌∷◌, ◌++◌, Some, None, Ok, Err, Result, codes, decimal, nat_lt}
+use Rattle.std.specs.Prelude.{◌≡◌, ℕ, zero, suc, ◌+◌, ◌/◌, ◌%◌, ◌^◌, cond, List, [], ◌∷◌, ◌++◌, Some, None, Ok, Err, Result, codes, decimal, nat_lt}
 use Rattle.refusal.specs.declared.Refusal.{Refusal}
 use Rattle.refusal.specs.Numbers.{refusal_number}
 use Rattle.console.specs.declared.answer.Answer.{Answer}
@@ -30,10 +30,19 @@ answer_shown (Taken (Some n)) = decimal n
 answer_shown (Taken None) = codes "none"
 answer_shown (Line up) = cond up (codes "up") (codes "down")
 
+-- the line of a refusal of this number
+abbrev pub refused_line : ℕ → List ℕ
+refused_line n = ended (codes "no " ++ decimal n)
+
 -- the line of what was said to a command: its answer, or `no` and the number of the refusal
 abbrev pub answer_line : Result Answer Refusal → List ℕ
 answer_line (Ok answer) = ended (answer_shown answer)
-answer_line (Err r) = ended (codes "no " ++ decimal (refusal_number r))
+answer_line (Err r) = refused_line (refusal_number r)
+
+-- the same, where a refusal is given as whatever has a number
+abbrev pub Says : {R : Type 0} → (R → ℕ → Type 0) → Result Answer R → List ℕ → Type 0
+Says numbered (Ok answer) line = line ≡ ended (answer_shown answer)
+Says numbered (Err r) line = (n : ℕ) × (numbered r n) × (line ≡ refused_line n)
 
 -- the answer to a line that is no command: the line as it was, byte for byte
 abbrev pub unreadable_line : List ℕ → List ℕ

@@ -1,8 +1,7 @@
 // The lines that answer commands.
 ghost use Rattle.std.specs.Prelude.{◌≡◌, IfOk, Some};
-ghost use Rattle.console.specs.Answers.{answer_line, answer_shown, unreadable_line};
+ghost use Rattle.console.specs.Answers.{Says, answer_shown, unreadable_line};
 
-use refusal::Refusal;
 use std::alloc::{AllocError, Global};
 use std::fmt;
 
@@ -34,13 +33,19 @@ impl fmt::Display for Answer {
     }
 }
 
-// The line that answers a command, by its answer or by the number of the refusal.
-pub fn answer_text(heap: Global, said: Result<Answer, Refusal>) -> Result<Vec<u8>, AllocError>
-    ensures { IfOk result (λ v. v.items ≡ answer_line said) }
+// The line that answers a command, by its answer or by the number of the refusal, given as that number or as what has one.
+pub fn answer_text<R: Into<u8>>(
+    heap: Global,
+    said: Result<Answer, R>,
+) -> Result<Vec<u8>, AllocError>
+    ensures { IfOk result (λ v. Says R.Into.converts said v.items) }
 {
     let line = match said {
         Ok(answer) => format!(in heap; "{answer}\n")?,
-        Err(refusal) => format!(in heap; "no {}\n", u8::from(refusal))?,
+        Err(refusal) => {
+            let number: u8 = refusal.into();
+            format!(in heap; "no {number}\n")?
+        }
     };
     Ok(line.into_bytes())
 }

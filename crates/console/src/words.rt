@@ -5,9 +5,10 @@ ghost use Rattle.std.specs.Str.{bytes_eq};
 ghost use Rattle.console.specs.Words.{words, words_left};
 
 use crate::scan::first_word;
+use std::mem;
 
 // The words that are left of a line, from the first to the last.
-#[derive(Drop)]
+#[derive(Clone, Copy)]
 pub struct Words<'a> {
     rest: &'a [u8],
 }
@@ -27,7 +28,8 @@ impl<'a> Iterator for Words<'a> {
     ghost remaining = { item_count words_left };
 
     fn next(&mut self) -> Option<&'a [u8]> {
-        let (word, rest) = first_word(self.rest)?;
+        // where no word is left nothing is, so that blanks at the end are gone over once
+        let (word, rest) = first_word(mem::replace(&mut self.rest, b""))?;
         self.rest = rest;
         Some(word)
     }

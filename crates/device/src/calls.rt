@@ -15,7 +15,7 @@ use refusal::Refusal;
 use register_file::file::RegisterFile;
 use register_file::settings::Settings;
 use register_file::steps::{
-    clashes, deactivate_word, end_word, line_is_up, place, set_cpu, set_stray, take_first,
+    clashes, deactivate_word, end_word, line_is_up, place, set_stray, take_first,
 };
 
 impl<F: RegisterFile> Device for F {
@@ -77,25 +77,33 @@ impl<F: RegisterFile> Device for F {
     }
 
     fn set_open(&mut self, open: bool) {
-        let cpu = self.settings().cpu;
-        set_cpu(self, CpuInterface { open, ..cpu });
+        let settings = self.settings();
+        let cpu = settings.cpu;
+        let cpu = CpuInterface { open, ..cpu };
+        self.set_settings(Settings { cpu, ..settings });
     }
 
     fn set_mask(&mut self, level: u32) -> Result<(), Refusal> {
         let mask = Priority::new(level).ok_or(Refusal::PriorityRange)?;
-        let cpu = self.settings().cpu;
-        set_cpu(self, CpuInterface { mask, ..cpu });
+        let settings = self.settings();
+        let cpu = settings.cpu;
+        let cpu = CpuInterface { mask, ..cpu };
+        self.set_settings(Settings { cpu, ..settings });
         Ok(())
     }
 
     fn set_mode(&mut self, mode: EoiMode) {
-        let cpu = self.settings().cpu;
-        set_cpu(self, CpuInterface { mode, ..cpu });
+        let settings = self.settings();
+        let cpu = settings.cpu;
+        let cpu = CpuInterface { mode, ..cpu };
+        self.set_settings(Settings { cpu, ..settings });
     }
 
     fn set_active(&mut self, active: PrioritySet) {
-        let cpu = self.settings().cpu;
-        set_cpu(self, CpuInterface { active, ..cpu });
+        let settings = self.settings();
+        let cpu = settings.cpu;
+        let cpu = CpuInterface { active, ..cpu };
+        self.set_settings(Settings { cpu, ..settings });
     }
 
     fn clear_stray(&mut self) {

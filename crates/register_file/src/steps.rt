@@ -76,8 +76,8 @@ fn make_inactive<F: RegisterFile>(file: &mut F, k: usize)
     requires { k < (F.RegisterFile.meaning file.old).count }
     ensures { let m = F.RegisterFile.meaning file.old in F.RegisterFile.meaning file.new ≡ with_entry k (with_state (inactive (m.at k).state) (m.at k)) m }
 {
-    let state = file.entry_at(k).state;
-    set_state(file, k, state.inactive());
+    let entry = file.entry_at(k);
+    file.put(k, entry.with_state(entry.state.inactive()));
 }
 
 // A joined end's last step: the active register with this number is no longer active; if there is none, the stray count rises.
@@ -87,7 +87,11 @@ fn release<F: RegisterFile>(file: &mut F, word: u32)
 {
     match find_active(file, word) {
         Some(k) => make_inactive(file, k),
-        None => set_stray(file, file.settings().stray.risen()),
+        None => {
+            let mut settings = file.settings();
+            settings.stray = settings.stray.risen();
+            file.set_settings(settings);
+        }
     }
 }
 
@@ -99,28 +103,31 @@ fn any_ready<F: RegisterFile>(file: &F) -> bool
     file.first_ready().is_some()
 }
 
-// Register k, which is valid, becomes active, and so does its priority.
-fn activate<F: RegisterFile>(file: &mut F, k: usize)
+// Register k, which is valid, becomes active, and so does its priority; its interrupt. The CPU interface is handed in, since to
+// read it once more may cost a bus cycle.
+fn activate<F: RegisterFile>(file: &mut F, k: usize, mut cpu: CpuInterface) -> InterruptId
     requires within { k < (F.RegisterFile.meaning file.old).count }
     requires valid { is_valid ((F.RegisterFile.meaning file.old).at k).state ≡ true }
-    ensures { F.RegisterFile.meaning file.new ≡ taken k (F.RegisterFile.meaning file.old) }
+    requires same { cpu_of cpu ≡ (F.RegisterFile.meaning file.old).cpu }
+    ensures does { F.RegisterFile.meaning file.new ≡ taken k (F.RegisterFile.meaning file.old) }
+    ensures number { id_of result ≡ ((F.RegisterFile.meaning file.old).at k).number }
 {
-    let mut cpu = file.settings().cpu;
-    cpu.active.insert(file.entry_at(k).priority);
+    let entry = file.entry_at(k);
+    cpu.active.insert(entry.priority);
     set_cpu(file, cpu);
     set_state(file, k, State::Active);
+    entry.id
 }
 
-// Takes the interrupt of register k, which was chosen on a live device.
-fn take<F: RegisterFile>(file: &mut F, k: usize) -> InterruptId
+// Takes the interrupt of register k, which was chosen on a live device with this CPU interface.
+fn take<F: RegisterFile>(file: &mut F, k: usize, cpu: CpuInterface) -> InterruptId
     requires live { (F.RegisterFile.meaning file.old).live ≡ true }
+    requires same { cpu_of cpu ≡ (F.RegisterFile.meaning file.old).cpu }
     requires chosen { Chosen F.RegisterFile.before (F.RegisterFile.meaning file.old) (Some k) }
     ensures does { Acknowledges (F.RegisterFile.meaning file.old) (Some (id_of result)) (F.RegisterFile.meaning file.new) }
     ensures prefers { Prefers F.RegisterFile.before (F.RegisterFile.meaning file.old) (Some (id_of result)) }
 {
-    let id = file.entry_at(k).id;
-    activate(file, k);
-    id
+    activate(file, k, cpu)
 }
 
 // Acknowledges: takes the interrupt of the register that is preferred, if the device is live and any is ready.
@@ -128,11 +135,12 @@ pub fn take_first<F: RegisterFile>(file: &mut F) -> Option<InterruptId>
     ensures does { Acknowledges (F.RegisterFile.meaning file.old) (option_map id_of result) (F.RegisterFile.meaning file.new) }
     ensures prefers { Prefers F.RegisterFile.before (F.RegisterFile.meaning file.old) (option_map id_of result) }
 {
-    if !file.settings().live {
+    let Settings { live, cpu, .. } = file.settings();
+    if !live {
         return None;
     }
     let k = file.first_ready()?;
-    Some(take(file, k))
+    Some(take(file, k, cpu))
 }
 
 // Whether the line is up: the device is live, and any register is ready.
@@ -146,17 +154,17 @@ pub fn line_is_up<F: RegisterFile>(file: &F) -> bool
 pub fn end_word<F: RegisterFile>(file: &mut F, word: u32)
     ensures { F.RegisterFile.meaning file.new ≡ ended word (F.RegisterFile.meaning file.old) }
 {
-    let Settings { live, mut cpu, .. } = file.settings();
-    if !live {
+    let mut settings = file.settings();
+    if !settings.live {
         return;
     }
     // that none is active is no failure
-    let Some(running) = cpu.active.lowest() else {
+    let Some(running) = settings.cpu.active.lowest() else {
         return;
     };
-    cpu.active.remove(running);
-    set_cpu(file, cpu);
-    if cpu.mode == EoiMode::Joined {
+    settings.cpu.active.remove(running);
+    file.set_settings(settings);
+    if settings.cpu.mode == EoiMode::Joined {
         release(file, word);
     }
 }

@@ -54,6 +54,8 @@ pub(crate) fn play_events<G: Guest>(guest: &mut G, trace: &Trace, area: &mut [u8
     ensures played { EventsPlayed (G.Guest.book guest.old) (events_in trace.now.file.now trace.now.events) (G.Guest.book guest.new) area.old area.new result }
     ensures bound { result.used ≤ 20 * trace.now.events.count }
 {
+    // read here, so that the check knows that the count has 16 bits, as those of the tally have
+    let _most = trace.events.count;
     let mut tally = Tally {
         used: 0,
         acknowledged: 0,

@@ -20,14 +20,19 @@ unfolding held_by
 held_all n f = let e : n - 0 ≡ n = omega arith in let z : 0 + n ≡ n = omega arith in rw e (sym (onward n 0 f) ∙ ap (λ (i : ℕ). held_by i f) z)
 
 -- nothing is to come past the last
-pub held_end : {A : Type 0} (n : ℕ) (f : ℕ → Option A) → held_next (n - n) n f ≡ []
+pub held_end : {A : Type 0} (n k : ℕ) (f : ℕ → Option A) → n ≤ k → held_next (n - k) k f ≡ []
 unfolding held_next
-held_end n f = let e : n - n ≡ 0 = omega arith in rw e refl
+held_end n k f h = let e : n - k ≡ 0 = omega arith in rw e refl
 
 -- the first of what is to come, and what comes after it
 pub held_step : {A : Type 0} (k n : ℕ) (f : ℕ → Option A) (x : A) → k < n → Some x ≡ f k → held_next (n - k) k f ≡ x ∷ held_next (n - (k + 1)) (k + 1) f
 unfolding held_next
 held_step k n f x h p = let e : n - k ≡ suc (n - (k + 1)) = omega arith in rw (e, ← p) refl
+
+-- one that holds nothing is passed over
+pub held_skip : {A : Type 0} (k n : ℕ) (f : ℕ → Option A) → k < n → None ≡ f k → held_next (n - k) k f ≡ held_next (n - (k + 1)) (k + 1) f
+unfolding held_next
+held_skip k n f h p = let e : n - k ≡ suc (n - (k + 1)) = omega arith in rw (e, ← p) refl
 
 length_one : {A : Type 0} (o : Option A) → length (option_to_list o) ≤ 1
 length_one None = omega arith

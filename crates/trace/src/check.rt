@@ -1,5 +1,4 @@
-// Whether the records of a section can be read, in the file's order. By number, since a fault names the place of record k, and
-// the walk over records rests on this.
+// Whether the records of a section can be read, in the file's order. By number, since a fault names the place of record k.
 ghost use Rattle.std.specs.Prelude.{◌≡◌, ◌-◌, ◌<◌, IfOk, OnOk, if◌then◌else◌, nat_eq};
 ghost use Rattle.std.specs.Option.{option_map};
 ghost use Rattle.std.specs.Result.{result_err};

@@ -1,8 +1,8 @@
 // The reader: it borrows the file, and hands out records as parts of it.
-ghost use Rattle.std.specs.Prelude.{◌≡◌, ◌≤◌, map, IfOk, MatchOption, OnOk};
+ghost use Rattle.std.specs.Prelude.{◌≡◌, map, IfOk, MatchOption, OnOk};
 ghost use Rattle.std.specs.Result.{result_err};
 ghost use Rattle.trace.specs.Contents.{setups_section, events_section};
-ghost use Rattle.trace.specs.Opening.{Absent, Found, fault_of, Readable, AllRead, events_in};
+ghost use Rattle.trace.specs.Opening.{Absent, Found, fault_of, AllRead, events_in};
 ghost use Rattle.trace.specs.Walking.{left, placed_in};
 ghost use Rattle.records.specs.Records.{setup_of, event_of};
 
@@ -13,17 +13,13 @@ use crate::walk::Walk;
 use fault::Fault;
 use records::record::{Event, Record, Setup};
 
-// A file whose sections lie where its contents say, and whose records can all be read.
+// A file whose contents and records are right, and where its sections lie. A section may be changed, as to play the first events
+// alone: a record that is not there, or holds nothing, is passed over.
 #[derive(Clone, Copy)]
 pub struct Trace<'a> {
     file: &'a [u8],
     pub setups: Section,
     pub events: Section,
-    pub ghost setups_of_file: { setups ≡ setups_section file.now },
-    pub ghost events_of_file: { events ≡ events_section file.now },
-    pub ghost few: { events.count ≤ 3000 },
-    pub ghost setups_read: { Readable setup_of file.now setups },
-    pub ghost events_read: { Readable event_of file.now events },
 }
 
 impl<'a> Trace<'a> {
@@ -57,14 +53,14 @@ impl<'a> Trace<'a> {
         self.events.record(self.file, k)
     }
 
-    // All setups, each with its place, in the file's order.
+    // The setups that can be read, each with its place, in the file's order.
     pub fn setups(&self) -> Walk<'a, Setup>
         ensures { left setup_of result.file.now result.section result.next ≡ placed_in self.now.file.now self.now.setups }
     {
         Walk::over(self.file, self.setups)
     }
 
-    // All events, each with its place, in the file's order.
+    // The events that can be read, in the file's order.
     pub fn events(&self) -> Walk<'a, Event>
         ensures { map (λ p. p.value) (left event_of result.file.now result.section result.next) ≡ events_in self.now.file.now self.now.events }
     {

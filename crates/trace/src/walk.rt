@@ -1,14 +1,14 @@
 // The records of a section, one after another.
 ghost use Rattle.std.specs.Prelude.{◌≡◌, ◌≤◌, ◌-◌};
 ghost use Rattle.records.specs.Bytes.{record_at};
-ghost use Rattle.trace.specs.Opening.{place, Readable};
+ghost use Rattle.trace.specs.Opening.{place};
 
 use crate::placed::Placed;
 use crate::section::Section;
 use records::record::FromRecord;
 use std::marker::PhantomData;
 
-// The records of a section from the next one on, each of which holds a T.
+// The records of a section from the next one on, of those that hold a T.
 #[derive(Drop)]
 pub struct Walk<'a, T: FromRecord> {
     file: &'a [u8],
@@ -16,7 +16,6 @@ pub struct Walk<'a, T: FromRecord> {
     next: u16,
     of: PhantomData<T>,
     ghost within: { next ≤ section.count },
-    ghost readable: { Readable T.held file.now section },
 }
 
 impl<'a, T: FromRecord> Walk<'a, T> {
@@ -24,9 +23,8 @@ impl<'a, T: FromRecord> Walk<'a, T> {
     ghost use Rattle.records.specs.Bytes.{held_by};
     ghost use Rattle.trace.specs.Walking.{placed_at, left};
 
-    // All records of a section.
+    // From the first record of a section on.
     pub(crate) fn over(file: &'a [u8], section: Section) -> Walk<'a, T>
-        requires { Readable T.held file.now section }
         ensures placed { left T.held result.file.now result.section result.next ≡ held_by section.count (placed_at T.held file.now section) }
         ensures values { map (λ p. p.value) (left T.held result.file.now result.section result.next) ≡ held_by section.count (λ k. T.held (record_at file.now (place section k))) }
     {
@@ -50,11 +48,12 @@ impl<'a, T: FromRecord> Iterator for Walk<'a, T> {
     ghost remaining = { λ s. at_most (s.section.count - s.next) };
 
     fn next(&mut self) -> Option<Placed<T>> {
-        if self.next == self.section.count {
-            return None;
+        for k in self.next..self.section.count {
+            self.next = k + 1;
+            if let Some(placed) = self.section.placed(self.file, k) {
+                return Some(placed);
+            }
         }
-        let placed = self.section.placed(self.file, self.next)?;
-        self.next += 1;
-        Some(placed)
+        None
     }
 }

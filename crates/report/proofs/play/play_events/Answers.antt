@@ -11,11 +11,11 @@ loop-placed-init g c =
 
 pub overflow_add-tally-in-loop-placed : goal.overflow_add-tally-in-loop-placed
 overflow_add-tally-in-loop-placed g c =
-    omega (arith, c.from.ensures, at_most_one c.names_number.result, ap (λ ps. length (map (λ p. p.value) ps)) c.in-Some.ensures.steps, c.loop-placed.invariant.some_acks, c.args.trace.now.few)
+    omega (arith, c.from.ensures, at_most_one c.names_number.result, ap (λ ps. length (map (λ p. p.value) ps)) c.in-Some.ensures.steps, c.loop-placed.invariant.some_acks)
 
 pub overflow_add-tally-in-loop-placed-2 : goal.overflow_add-tally-in-loop-placed-2
 overflow_add-tally-in-loop-placed-2 g c =
-    omega (arith, c.from-in-loop-placed.ensures, at_most_one c.is_err.result, ap (λ ps. length (map (λ p. p.value) ps)) c.in-Some.ensures.steps, c.loop-placed.invariant.some_nos, c.args.trace.now.few)
+    omega (arith, c.from-in-loop-placed.ensures, at_most_one c.is_err.result, ap (λ ps. length (map (λ p. p.value) ps)) c.in-Some.ensures.steps, c.loop-placed.invariant.some_nos)
 
 pub loop-placed-preserved : goal.loop-placed-preserved
 loop-placed-preserved g c =
