@@ -41,7 +41,7 @@ answer_line (Err r) = refused_line (refusal_number r)
 
 -- the same, where a refusal is given as whatever has a number
 abbrev pub Says : {R : Type 0} → (R → ℕ → Type 0) → Result Answer R → List ℕ → Type 0
-Says numbered (Ok answer) line = line ≡ ended (answer_shown answer)
+Says numbered (Ok answer) line = line ≡ answer_line (Ok answer)
 Says numbered (Err r) line = (n : ℕ) × (numbered r n) × (line ≡ refused_line n)
 
 -- the answer to a line that is no command: the line as it was, byte for byte

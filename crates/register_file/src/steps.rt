@@ -103,8 +103,8 @@ fn any_ready<F: RegisterFile>(file: &F) -> bool
     file.first_ready().is_some()
 }
 
-// Register k, which is valid, becomes active, and so does its priority; its interrupt. The CPU interface is handed in, since to
-// read it once more may cost a bus cycle.
+// Register k, which is valid, becomes active, and so does its priority; its interrupt. The CPU interface is the one that the caller
+// has read already, since a reading may cost a bus cycle.
 fn activate<F: RegisterFile>(file: &mut F, k: usize, mut cpu: CpuInterface) -> InterruptId
     requires within { k < (F.RegisterFile.meaning file.old).count }
     requires valid { is_valid ((F.RegisterFile.meaning file.old).at k).state ≡ true }

@@ -3,7 +3,8 @@ ghost use Rattle.std.specs.Prelude.{◌≡◌, map, IfOk, MatchOption, OnOk};
 ghost use Rattle.std.specs.Result.{result_err};
 ghost use Rattle.trace.specs.Contents.{setups_section, events_section};
 ghost use Rattle.trace.specs.Opening.{Absent, Found, fault_of, AllRead, events_in};
-ghost use Rattle.trace.specs.Walking.{left, placed_in};
+ghost use Rattle.trace.specs.Walking.{left, placed_at, placed_in};
+ghost use Rattle.records.specs.Bytes.{held_by};
 ghost use Rattle.records.specs.Records.{setup_of, event_of};
 
 use crate::check::{check_events, check_setups};
@@ -60,9 +61,10 @@ impl<'a> Trace<'a> {
         Walk::over(self.file, self.setups)
     }
 
-    // The events that can be read, in the file's order.
+    // The events that can be read, each with its place, in the file's order.
     pub fn events(&self) -> Walk<'a, Event>
-        ensures { map (λ p. p.value) (left event_of result.file.now result.section result.next) ≡ events_in self.now.file.now self.now.events }
+        ensures placed { left event_of result.file.now result.section result.next ≡ held_by self.now.events.count (placed_at event_of self.now.file.now self.now.events) }
+        ensures values { map (λ p. p.value) (left event_of result.file.now result.section result.next) ≡ events_in self.now.file.now self.now.events }
     {
         Walk::over(self.file, self.events)
     }

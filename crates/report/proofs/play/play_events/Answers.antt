@@ -7,7 +7,7 @@ use Rattle.report.proofs.play.play_events.Goals as goal
 pub loop-placed-init : goal.loop-placed-init
 loop-placed-init g c =
     let t = c.args.trace.now in
-    none_played _ _ _ _ _ (rw c.into_iter-placed-iterator.ensures.into_iter_gives c.events-placed-items.ensures) (length_held t.events.count (event_at t.file.now t.events))
+    none_played _ _ _ _ _ (rw c.into_iter-placed-iterator.ensures.into_iter_gives c.events-placed-items.ensures.values) (length_held t.events.count (event_at t.file.now t.events))
 
 pub overflow_add-tally-in-loop-placed : goal.overflow_add-tally-in-loop-placed
 overflow_add-tally-in-loop-placed g c =
